@@ -1,0 +1,68 @@
+-- A block of 512 bytes: what reading finds in it, and the block of given records. Assumes nothing.
+-- Reading goes from record to record and from block to block with a stage: 0 no record yet, 1 the size record and edges, 2 steps;
+-- 3 and 4 are the refusals, and stay: so the first faulty block decides between 3 and 4.
+use mathlib.Core.Bool.{Bool, true, false, cond, _&&_, _||_}
+use mathlib.Core.List.{List, [], _∷_, _++_}
+use Prim.Native.Nat.{ℕ, zero, suc, _+_, _*_, _-_, _/_}
+use lib.ListN.{length, take, drop, replicate}
+use lib.Dec.{eqb, leb}
+use Rattle.blocks.specs.Fletcher.{fletcher}
+use Rattle.blocks.specs.Bytes.{number2, number4, bytes2, bytes4, zeroFrom}
+use Rattle.blocks.specs.Record.{kindOf, recordRight}
+
+-- one size record comes first, then all edges, then steps
+unfoldable pub inOrder : ℕ → ℕ → Bool
+inOrder stage kind = eqb stage 0 && eqb kind 1 || eqb stage 1 && leb 2 kind || eqb stage 2 && leb 3 kind
+
+-- the stage after one record
+unfoldable pub afterRecord : ℕ → List ℕ → ℕ
+afterRecord stage r = cond (recordRight r && inOrder stage (kindOf r)) (cond (leb (kindOf r) 2) 1 2) 4
+
+-- the stage after n records of 16 bytes
+unfoldable pub afterRecords : ℕ → ℕ → List ℕ → ℕ
+afterRecords stage zero s = stage
+afterRecords stage (suc n) s = afterRecords (afterRecord stage (take 16 s)) n (drop 16 s)
+
+-- bytes 0 to 3 hold the block's number, 4 and 5 its record count
+abbrev pub numberIn : List ℕ → ℕ
+numberIn block = number4 0 block
+
+abbrev pub countIn : List ℕ → ℕ
+countIn block = number2 4 block
+
+-- bytes 508 to 511 hold the check
+abbrev pub checkIn : List ℕ → ℕ
+checkIn block = number4 508 block
+
+-- 1 to 31 records; all blocks but the last hold 31
+unfoldable pub countRight : (last : Bool) → ℕ → Bool
+countRight last n = leb 1 n && leb n 31 && (last || eqb n 31)
+
+-- number and count are right, bytes 6 and 7 are zero, and so are those behind the records, up to the check
+unfoldable pub headRight : ℕ → (last : Bool) → List ℕ → Bool
+headRight number last block =
+    eqb (numberIn block) number
+    && countRight last (countIn block)
+    && eqb (number2 6 block) 0
+    && zeroFrom (8 + 16 * countIn block) (take 508 block)
+
+-- the stage after a block: 3 where the check differs, before 4 where anything else is wrong
+unfoldable pub afterBlock : ℕ → (last : Bool) → ℕ → List ℕ → ℕ
+afterBlock number last stage block =
+    cond (leb 3 stage) stage
+    (cond (eqb (checkIn block) (fletcher (take 508 block)))
+    (cond (headRight number last block) (afterRecords stage (countIn block) (drop 8 block)) 4)
+    3)
+
+-- the records in a block
+unfoldable pub recordsIn : List ℕ → List ℕ
+recordsIn block = take (16 * countIn block) (drop 8 block)
+
+-- the first 508 bytes of the block of given records
+unfoldable pub blockBody : ℕ → List ℕ → List ℕ
+blockBody number records =
+    bytes4 number ++ bytes2 (length records / 16) ++ (0 ∷ 0 ∷ []) ++ records ++ replicate (500 - length records) 0
+
+-- the block of given records: the check is that of bytes 0 to 507
+unfoldable pub blockOf : ℕ → List ℕ → List ℕ
+blockOf number records = blockBody number records ++ bytes4 (fletcher (blockBody number records))

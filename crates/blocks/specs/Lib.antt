@@ -1,0 +1,5 @@
+pub mod Fletcher
+pub mod Bytes
+pub mod Record
+pub mod Block
+pub mod File

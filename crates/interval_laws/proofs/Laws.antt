@@ -1,0 +1,243 @@
+-- THEOREMS, for every legal hierarchy. Least and greatest number are over the reach as a relation of paths. Assumes nothing.
+use mathlib.Core.Path.{_≡_, refl, sym, ap, _∙_, subst}
+use mathlib.Core.List.{List, [], _∷_, map}
+use mathlib.Core.Bool.{Bool, true, false, _&&_}
+use mathlib.Core.Option.{Option, none, some}
+use Prim.Native.Nat.{ℕ, zero, suc, _+_, _*_, _≤_, _<_}
+use native.Mathlib.Omega.{arith}
+use lib.Dec.{leb}
+use lib.ListN.{length, getD}
+use borrow.Author.Tests.{le-leb}
+use Rattle.intervals.specs.Lists.{least, greatest}
+use Rattle.intervals.specs.Hierarchy.{edgesOf, children, Edge, Reach, reach, Legal}
+use Rattle.intervals.specs.Hierarchy.Reach.{self, step}
+use Rattle.intervals.specs.Numbering.{numbering}
+use Rattle.intervals.specs.Intervals.{numbersAmong, lowOf, highOf, intervalsFrom, intervalTable}
+use Rattle.intervals.specs.Cover.{lowAt, highAt, intervalAt, callInterval, contains, firstWithin, coverOfInterval, coverOf}
+use Rattle.intervals.specs.declared.Interval.{Interval}
+use Rattle.intervals.proofs.Bools.{and-both}
+use Rattle.intervals.proofs.Members.{In, head, tail, in-nil, in-cons, least-most, least-is, greatest-least, greatest-is, among-in, among-from}
+use Rattle.intervals.proofs.Reaches.{reach-all, reach-only}
+use Rattle.intervals.proofs.Found.{Found, reached-found}
+use Rattle.intervals.proofs.Legals.{Promise, promised}
+use Rattle.intervals.proofs.Covers.{search-ends, search-is}
+use Rattle.interval_laws.proofs.Numbers.{numbering-most, numbering-once}
+
+-- a way goes on where another ends
+reach-on : {es : List ℕ} {a b x : ℕ} → Reach es a b → Reach es b x → Reach es a x
+reach-on self w = w
+reach-on (step e v) w = step e (reach-on v w)
+
+pub reach-within : {es : List ℕ} {a x : ℕ} (n : ℕ) → ((p c : ℕ) → Edge es p c → c < n) → Reach es a x → a < n → x < n
+reach-within n ends self h = h
+reach-within {a = a} n ends (step {child = c} e w) h = reach-within n ends w (ends a c e)
+
+-- an interval of numbers from 1 to n
+pub record Real (n low high : ℕ) : Type 0 where
+  pub from-one : 1 ≤ low
+  pub ordered : low ≤ high
+  pub to-most : high ≤ n
+
+-- the second interval lies inside the first
+pub record Inside (low high low′ high′ : ℕ) : Type 0 where
+  pub low-end : low ≤ low′
+  pub high-end : high′ ≤ high
+
+-- the two intervals share a number
+pub record Shared (low high low′ high′ : ℕ) : Type 0 where
+  pub number : ℕ
+  pub in-first : (low ≤ number) × (number ≤ high)
+  pub in-second : (low′ ≤ number) × (number ≤ high′)
+
+-- the table has low and high in turn
+table-at : (n : ℕ) (es : List ℕ) (k node i : ℕ) → i < k
+    → (getD (intervalsFrom n es k node) (2 * i) 0 ≡ lowOf n es (node + i)) × (getD (intervalsFrom n es k node) (2 * i + 1) 0 ≡ highOf n es (node + i))
+unfolding intervalsFrom
+table-at n es zero node i h = absurd (omega arith)
+table-at n es (suc k) node zero h = let e : node ≡ node + 0 = omega arith in (ap (lowOf n es) e, ap (highOf n es) e)
+table-at n es (suc k) node (suc i) h =
+    let two : 2 * suc i ≡ suc (suc (2 * i)) = omega arith in
+    let three : suc (suc (2 * i)) + 1 ≡ suc (suc (2 * i + 1)) = omega arith in
+    let e : suc node + i ≡ node + suc i = omega arith in
+    let r = table-at n es k (suc node) i (omega arith) in
+    rw (two, three) (r .0 ∙ ap (lowOf n es) e, r .1 ∙ ap (highOf n es) e)
+
+table-length : (n : ℕ) (es : List ℕ) (k node : ℕ) → length (intervalsFrom n es k node) ≡ 2 * k
+unfolding intervalsFrom
+table-length n es zero node = refl
+table-length n es (suc k) node = let r = table-length n es k (suc node) in omega arith
+
+-- the built table has 2n numbers, low and high in turn for each node
+pub built-length : (n : ℕ) (es : List ℕ) → length (intervalTable n es) ≡ 2 * n
+unfolding intervalTable
+built-length n es = table-length n es n 0
+
+pub built-low : (n : ℕ) (es : List ℕ) (node : ℕ) → node < n → lowAt (intervalTable n es) node ≡ lowOf n es node
+unfolding intervalTable
+built-low n es node h = let e : 0 + node ≡ node = omega arith in table-at n es n 0 node h .0 ∙ ap (lowOf n es) e
+
+pub built-high : (n : ℕ) (es : List ℕ) (node : ℕ) → node < n → highAt (intervalTable n es) node ≡ highOf n es node
+unfolding intervalTable
+built-high n es node h = let e : 0 + node ≡ node = omega arith in table-at n es n 0 node h .1 ∙ ap (highOf n es) e
+
+map-is : (f : ℕ → ℕ) (P : ℕ → Type 0) (names : List ℕ) → ((r : ℕ) → In r names → P (f r)) → (y : ℕ) → In y (map f names) → P y
+map-is f P [] g y i = in-nil i
+map-is f P (r ∷ rs) g y i = in-cons i (λ e. subst P e (g r head)) (map-is f P rs (λ q j. g q (tail j)) y)
+
+in-map : (f : ℕ → ℕ) (r : ℕ) (names : List ℕ) → In r names → In (f r) (map f names)
+in-map f r [] i = in-nil i
+in-map f r (q ∷ names) i = in-cons i (λ e. subst (λ (k : ℕ). In (f r) (k ∷ map f names)) (ap f (sym e)) head) (λ j. tail (in-map f r names j))
+
+-- a name given twice counts once: the call's interval is the same
+pub name-once : (table : List ℕ) (r : ℕ) (names : List ℕ) → In r names → callInterval table (r ∷ names) ≡ callInterval table names
+name-once table r names i =
+    let low : least (map (lowAt table) (r ∷ names)) ≡ least (map (lowAt table) names) =
+    let ls = map (lowAt table) names in
+    let j = in-map (lowAt table) r names i in
+    let a : least (lowAt table r ∷ ls) ≤ least ls = least-is (λ k. least (lowAt table r ∷ ls) ≤ k) (lowAt table r) ls j (λ y m. least-most y (lowAt table r ∷ ls) (tail m)) in
+    let b : least ls ≤ least (lowAt table r ∷ ls)
+    = least-is (λ k. least ls ≤ k) (lowAt table r) (lowAt table r ∷ ls) head (λ y m. in-cons m (λ e. subst (λ (k : ℕ). least ls ≤ k) e (least-most (lowAt table r) ls j)) (least-most y ls)) in
+    omega arith in
+    let high : greatest (map (highAt table) (r ∷ names)) ≡ greatest (map (highAt table) names) =
+    let hs = map (highAt table) names in
+    let j = in-map (highAt table) r names i in
+    let a : greatest hs ≤ greatest (highAt table r ∷ hs) = greatest-is (λ k. k ≤ greatest (highAt table r ∷ hs)) (highAt table r) hs j (λ y m. greatest-least y (highAt table r ∷ hs) (tail m)) in
+    let b : greatest (highAt table r ∷ hs) ≤ greatest hs
+    = greatest-is (λ k. k ≤ greatest hs) (highAt table r) (highAt table r ∷ hs) head (λ y m. in-cons m (λ e. subst (λ (k : ℕ). k ≤ greatest hs) e (greatest-least (highAt table r) hs j)) (greatest-least y hs)) in
+    omega arith in
+    rw (low, high)
+
+module _ (n : ℕ) (table : List ℕ) (edgeCount : ℕ) (legal : Legal n table edgeCount) where
+  abbrev es : List ℕ
+  es = edgesOf table edgeCount
+
+  promise : Promise n es
+  promise = promised n table edgeCount legal
+
+  ends : (p c : ℕ) → Edge es p c → c < n
+  ends p c e = promise .edge p c e .child-below
+
+  -- a node's number, 0 where it has none
+  abbrev number : ℕ → ℕ
+  number node = getD (numbering n es) node 0
+
+  -- every number is between 1 and n (a node without one has 0 here)
+  pub number-within : (node : ℕ) → number node ≤ n
+  number-within node = numbering-most n es (promise .some) node
+
+  -- and taken once
+  pub number-once : (i j : ℕ) → 1 ≤ number i → number i ≡ number j → i ≡ j
+  number-once i j = numbering-once n es (promise .some) i j
+
+  -- the reach as a set is the reach as a relation
+  pub reach-agrees : (node x : ℕ) → node < n → (Reach es node x → 1 ≤ getD (reach n es node) x 0) × (1 ≤ getD (reach n es node) x 0 → Reach es node x)
+  reach-agrees node x h = (reach-all es n ends node x h, reach-only es n ends node x)
+
+  -- each reach holds a numbered node
+  pub reach-numbered : (node : ℕ) → node < n → (x : ℕ) × Reach es node x × (1 ≤ number x)
+  unfolding numbering
+  reach-numbered node h = let f = reached-found es n ends (promise .some) node (promise .reached node h) in (f .leaf, f .way, f .has)
+
+  module _ (node : ℕ) (h : node < n) where
+    abbrev numbers : List ℕ
+    numbers = numbersAmong (reach n es node) (numbering n es)
+
+    reached-in : (x : ℕ) → Reach es node x → 1 ≤ number x → In (number x) numbers
+    reached-in x w k = among-in (reach n es node) (numbering n es) x (reach-all es n ends node x h w) k
+
+    some-in : In (number (reach-numbered node h .0)) numbers
+    some-in = let f = reach-numbered node h in reached-in (f .0) (f .1) (f .2)
+
+    only-in : (P : ℕ → Type 0) → ((x : ℕ) → Reach es node x → 1 ≤ number x → P (number x)) → (y : ℕ) → In y numbers → P y
+    only-in P f y i =
+        let a = among-from (reach n es node) (numbering n es) y i in
+        subst P (a .number) (f (a .node) (reach-only es n ends node (a .node) (a .flagged)) (omega (arith, a .number, a .some)))
+
+    -- low is the least number among the nodes reached: at most each, and one of them
+    pub low-most : (x : ℕ) → Reach es node x → 1 ≤ number x → lowOf n es node ≤ number x
+    unfolding lowOf
+    low-most x w k = least-most (number x) numbers (reached-in x w k)
+
+    pub low-is : (P : ℕ → Type 0) → ((x : ℕ) → Reach es node x → 1 ≤ number x → P (number x)) → P (lowOf n es node)
+    unfolding lowOf
+    low-is P f = least-is P (number (reach-numbered node h .0)) numbers some-in (only-in P f)
+
+    -- high is the greatest
+    pub high-least : (x : ℕ) → Reach es node x → 1 ≤ number x → number x ≤ highOf n es node
+    unfolding highOf
+    high-least x w k = greatest-least (number x) numbers (reached-in x w k)
+
+    pub high-is : (P : ℕ → Type 0) → ((x : ℕ) → Reach es node x → 1 ≤ number x → P (number x)) → P (highOf n es node)
+    unfolding highOf
+    high-is P f = greatest-is P (number (reach-numbered node h .0)) numbers some-in (only-in P f)
+
+    -- each interval is real, within 1 to n
+    pub interval-real : Real n (lowOf n es node) (highOf n es node)
+    interval-real =
+        let f = reach-numbered node h in
+        record {
+          from-one = low-is (λ k. 1 ≤ k) (λ x w k. k);
+          ordered = omega (arith, low-most (f .0) (f .1) (f .2), high-least (f .0) (f .1) (f .2));
+          to-most = high-is (λ k. k ≤ n) (λ x w k. number-within x);
+        }
+
+  -- the interval of a node contains that of each node that it reaches
+  pub reached-inside : (a b : ℕ) → a < n → b < n → Reach es a b → Inside (lowOf n es a) (highOf n es a) (lowOf n es b) (highOf n es b)
+  reached-inside a b ha hb w =
+      record {
+        low-end = low-is b hb (λ k. lowOf n es a ≤ k) (λ x v k. low-most a ha x (reach-on w v) k);
+        high-end = high-is b hb (λ k. k ≤ highOf n es a) (λ x v k. high-least a ha x (reach-on w v) k);
+      }
+
+  -- each interval lies inside node 0's
+  pub interval-inside-root : (node : ℕ) → node < n → Inside (lowOf n es 0) (highOf n es 0) (lowOf n es node) (highOf n es node)
+  interval-inside-root node h = reached-inside 0 node (promise .some) h (promise .reached node h)
+
+  -- a parent's interval contains each child's
+  pub child-inside : (parent child : ℕ) → Edge es parent child → Inside (lowOf n es parent) (highOf n es parent) (lowOf n es child) (highOf n es child)
+  child-inside parent child e = reached-inside parent child (promise .edge parent child e .parent-below) (promise .edge parent child e .child-below) (step e self)
+
+  -- nodes with a common reach have intervals that share a number
+  pub common-share : (a b x : ℕ) → a < n → b < n → Reach es a x → Reach es b x → Shared (lowOf n es a) (highOf n es a) (lowOf n es b) (highOf n es b)
+  common-share a b x ha hb v w =
+      let f = reach-numbered x (reach-within n ends v ha) in
+      record {
+        number = number (f .0);
+        in-first = (low-most a ha (f .0) (reach-on v (f .1)) (f .2), high-least a ha (f .0) (reach-on v (f .1)) (f .2));
+        in-second = (low-most b hb (f .0) (reach-on w (f .1)) (f .2), high-least b hb (f .0) (reach-on w (f .1)) (f .2));
+      }
+
+  -- THE COVER of a call, over the built table
+  abbrev built : List ℕ
+  built = intervalTable n es
+
+  -- the root's interval contains the call's
+  root-contains : (name : ℕ) (names : List ℕ) → ((r : ℕ) → In r (name ∷ names) → r < n) → contains (intervalAt built 0) (callInterval built (name ∷ names)) ≡ true
+  root-contains name names below =
+      let low : (r : ℕ) → In r (name ∷ names) → lowAt built 0 ≤ lowAt built r
+      = λ r i. omega (arith, built-low n es 0 (promise .some), built-low n es r (below r i), interval-inside-root r (below r i) .low-end) in
+      let high : (r : ℕ) → In r (name ∷ names) → highAt built r ≤ highAt built 0
+      = λ r i. omega (arith, built-high n es 0 (promise .some), built-high n es r (below r i), interval-inside-root r (below r i) .high-end) in
+      and-both (leb (lowAt built 0) (least (map (lowAt built) (name ∷ names)))) (leb (greatest (map (highAt built) (name ∷ names))) (highAt built 0))
+      (le-leb (lowAt built 0) (least (map (lowAt built) (name ∷ names)))
+      (least-is (λ k. lowAt built 0 ≤ k) (lowAt built name) (map (lowAt built) (name ∷ names)) head (map-is (lowAt built) (λ k. lowAt built 0 ≤ k) (name ∷ names) low)))
+      (le-leb (greatest (map (highAt built) (name ∷ names))) (highAt built 0)
+      (greatest-is (λ k. k ≤ highAt built 0) (highAt built name) (map (highAt built) (name ∷ names)) head (map-is (highAt built) (λ k. k ≤ highAt built 0) (name ∷ names) high)))
+
+  -- the cover's interval contains the call's
+  pub cover-contains : (name : ℕ) (names : List ℕ) → ((r : ℕ) → In r (name ∷ names) → r < n) → contains (intervalAt built (coverOf built es (name ∷ names))) (callInterval built (name ∷ names)) ≡ true
+  unfolding coverOfInterval
+  cover-contains name names below =
+      search-is built es (callInterval built (name ∷ names)) (λ (r : ℕ). contains (intervalAt built r) (callInterval built (name ∷ names)) ≡ true)
+      (λ present child e around p. around) _ 0 (root-contains name names below)
+
+  -- the cover is a node
+  pub cover-below : (names : List ℕ) → coverOf built es names < n
+  unfolding coverOfInterval
+  cover-below names = search-is built es (callInterval built names) (λ (r : ℕ). r < n) (λ present child e around p. ends present child e) _ 0 (promise .some)
+
+-- the cover search ends with any tables whatever: from the cover no step leads on
+pub cover-ends : (table es : List ℕ) (call : Interval)
+    → firstWithin table call (coverOfInterval table es call) (children es (coverOfInterval table es call)) ≡ none
+unfolding coverOfInterval
+cover-ends table es call = search-ends table es call _ 0 (omega arith)

@@ -1,0 +1,3 @@
+-- What every legal hierarchy promises: Laws has the theorems, Numbers what they rest on of the numbering.
+pub mod Numbers
+pub mod Laws

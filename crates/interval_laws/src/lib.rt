@@ -1,0 +1,1 @@
+// Theorems about every legal hierarchy, over the definitions of `intervals`: proofs/Laws.antt. No function is here.

@@ -1,0 +1,9 @@
+-- What the proofs of several functions, and of the layers above, use.
+pub mod Bools
+pub mod Refusals
+pub mod Members
+pub mod Marks
+pub mod Reaches
+pub mod Found
+pub mod Legals
+pub mod Covers

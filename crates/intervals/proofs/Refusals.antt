@@ -1,0 +1,30 @@
+-- How a list of checks is read: which refusal it gives, and what holds where it gives none. Assumes nothing.
+use mathlib.Core.Path.{_≡_, refl, sym, ap, _∙_}
+use mathlib.Core.List.{List, [], _∷_}
+use mathlib.Core.Bool.{Bool, true, false}
+use mathlib.Core.Option.{Option, none, some}
+use Prim.Native.Nat.{ℕ}
+use Rattle.intervals.specs.Answer.{Check, refusal}
+use Rattle.intervals.proofs.Bools.{bool, not-both}
+
+-- the first check holds: its number is the refusal
+pub refused-here : (c : Check) (cs : List Check) → c .holds ≡ true → refusal (c ∷ cs) ≡ some (c .number)
+unfolding refusal
+refused-here c cs e = rw (e, refusal)
+
+-- it does not: the later ones decide
+pub refused-later : (c : Check) (cs : List Check) → c .holds ≡ false → refusal (c ∷ cs) ≡ refusal cs
+unfolding refusal
+refused-later c cs e = rw (e, refusal)
+
+-- no condition holds
+abbrev pub NoneHolds : List Check → Type 0
+NoneHolds [] = Unit {0}
+NoneHolds (c ∷ cs) = (c .holds ≡ false) × NoneHolds cs
+
+pub refusal-none : (cs : List Check) → refusal cs ≡ none → NoneHolds cs
+refusal-none [] e = tt
+refusal-none (c ∷ cs) e =
+    bool (c .holds)
+    (λ h. not-both true refl (let s = refused-here c cs h in cc))
+    (λ h. (h, refusal-none cs (sym (refused-later c cs h) ∙ e)))

@@ -1,0 +1,52 @@
+-- Building: what it answers, and what it leaves in the interval places and in the scratch that it is lent. Assumes nothing.
+use mathlib.Core.List.{List, [], _∷_}
+use mathlib.Core.Bool.{Bool, true, false, _||_}
+use mathlib.Core.Option.{Option, none, some}
+use Prim.Native.Nat.{ℕ, _*_}
+use lib.Dec.{ltb}
+use lib.ListN.{length, replicate}
+use Rattle.intervals.specs.Lists.{over}
+use Rattle.intervals.specs.Answer.{Answer, done, refused, Check, _when_, refusal, answerOf}
+use Rattle.intervals.specs.Hierarchy.{edgesOf, hierarchyChecks}
+use Rattle.intervals.specs.Intervals.{intervalTable}
+use Rattle.intervals.specs.declared.BuildAnswer.{BuildAnswer}
+use Rattle.intervals.specs.declared.BuildAnswer.the-variants.{Built, Refused}
+
+-- what building leaves: its answer, the interval places and the scratch
+pub record BuildResult : Type 0 where
+  pub answer : Answer (Unit {0})
+  pub places : List ℕ
+  pub scratch : List ℕ
+
+-- 1: a lent buffer is shorter than needed, which is 2n interval places, two numbers an edge, and 2,048 bytes of scratch
+abbrev pub buildShort : ℕ → List ℕ → ℕ → List ℕ → List ℕ → Bool
+buildShort n edges edgeCount places scratch =
+    ltb (length places) (2 * n) || ltb (length edges) (2 * edgeCount) || ltb (length scratch) 2048
+
+-- building looks at 1 and 5 to 9
+abbrev pub buildRefusal : ℕ → List ℕ → ℕ → List ℕ → List ℕ → Option ℕ
+buildRefusal n edges edgeCount places scratch =
+    refusal (1 when buildShort n edges edgeCount places scratch ∷ hierarchyChecks n edges edgeCount)
+
+-- low and high in turn for each node; a refusal changes nothing
+abbrev pub placesAfter : Option ℕ → List ℕ → List ℕ → List ℕ
+placesAfter none table places = over table places
+placesAfter (some k) table places = places
+
+-- scratch is unchanged after refusal 1; after any other end, refused or not, its first 2,048 bytes are zero
+abbrev pub scratchAfter : (short : Bool) → List ℕ → List ℕ
+scratchAfter true scratch = scratch
+scratchAfter false scratch = over (replicate 2048 0) scratch
+
+unfoldable pub buildStep : ℕ → List ℕ → ℕ → List ℕ → List ℕ → BuildResult
+buildStep n edges edgeCount places scratch =
+    record {
+      answer = answerOf (buildRefusal n edges edgeCount places scratch) tt;
+      places = placesAfter (buildRefusal n edges edgeCount places scratch) (intervalTable n (edgesOf edges edgeCount)) places;
+      scratch = scratchAfter (buildShort n edges edgeCount places scratch) scratch;
+    }
+
+-- what each case of the answer is in the paper
+abbrev pub buildMeaning : BuildAnswer → Answer (Unit {0})
+buildMeaning Built = done tt
+buildMeaning (Refused k) = refused k
