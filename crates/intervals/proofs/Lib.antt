@@ -7,3 +7,4 @@ pub mod Reaches
 pub mod Found
 pub mod Legals
 pub mod Covers
+pub mod Loops

@@ -1,0 +1,114 @@
+-- The turns of a loop over a list. A loop that goes through a list l from place 0 keeps, with what is left, `f (drop i l)`, equal to a result r that
+-- does not change. Each lemma takes that equation to the next place, or to the end. The element that the turn read is x, by `getD l i d ≡ x`: `refl`
+-- where the loop reads l itself, and `getD-take k l i d h` where the loop is over `take k l` and reads l.
+-- Assumes nothing.
+use mathlib.Core.Path.{_≡_, refl, sym, ap, _∙_}
+use mathlib.Core.List.{List, [], _∷_, _++_, map, append-assoc, append-nil}
+use mathlib.Core.Bool.{Bool, true, false, _&&_}
+use Prim.Native.Nat.{ℕ, zero, suc, _+_, _<_, _≤_}
+use native.Mathlib.Numerals.{add-one}
+use native.Mathlib.Nat.{not-suc-le-zero, le-of-suc-le-suc}
+use native.Mathlib.Omega.{arith}
+use lib.ListN.{length, getD, take, drop, set, drop-of-length-le, length-map, take-append-drop}
+use lib.Seq.{drop-cons, length-take-le, take-suc-set, drop-set-lt, drop-drop}
+use Rattle.intervals.specs.Lists.{every, any, tails, over, count, keep}
+use Rattle.intervals.proofs.Bools.{and-left, and-right}
+
+-- the length of an array that is a field, from what owning the struct tells: `search (field-length, needs)`
+pub field-length : {A B : Type 0} (f : A → B) (l : List A) (n : ℕ) → length (map f l) ≡ n → length l ≡ n
+field-length f l n e = sym (length-map l f) ∙ e
+
+module _ {A : Type 0} where
+  -- the list from place i on, by its first element
+  pub drop-step : (l : List A) (i : ℕ) (d : A) {x : A} → getD l i d ≡ x → i < length l → drop i l ≡ x ∷ drop (i + 1) l
+  drop-step l i d at h = rw (← at, add-one, drop-cons l i d) refl
+
+  -- within the list no default is read
+  pub getD-any : (l : List A) (i : ℕ) (d d′ : A) → i < length l → getD l i d ≡ getD l i d′
+  getD-any [] i d d′ h = absurd (not-suc-le-zero h)
+  getD-any (x ∷ xs) zero d d′ h = refl
+  getD-any (x ∷ xs) (suc i) d d′ h = getD-any xs i d d′ (le-of-suc-le-suc h)
+
+  -- a test of every element, with the invariant `every p (drop i l) ≡ r`
+  pub every-stop : (p : A → Bool) (l : List A) (i : ℕ) (d : A) {x : A} {r : Bool} → every p (drop i l) ≡ r → getD l i d ≡ x → p x ≡ false → i < length l → false ≡ r
+  unfolding every
+  every-stop p l i d inv at e h = rw (drop-step l i d at h, e) at inv
+
+  pub every-next : (p : A → Bool) (l : List A) (i : ℕ) (d : A) {x : A} {r : Bool} → every p (drop i l) ≡ r → getD l i d ≡ x → p x ≡ true → i < length l
+      → every p (drop (i + 1) l) ≡ r
+  unfolding every
+  every-next p l i d inv at e h = rw (drop-step l i d at h, e) at inv
+
+  pub every-end : (p : A → Bool) (l : List A) (i : ℕ) {r : Bool} → every p (drop i l) ≡ r → length l ≤ i → true ≡ r
+  unfolding every
+  every-end p l i inv h = rw (drop-of-length-le l h) at inv
+
+  -- what every element passes, an element passes
+  pub every-at : (p : A → Bool) (l : List A) (i : ℕ) (d : A) → every p l ≡ true → i < length l → p (getD l i d) ≡ true
+  unfolding every
+  every-at p [] i d t h = absurd (not-suc-le-zero h)
+  every-at p (x ∷ xs) zero d t h = and-left (p x) (every p xs) t
+  every-at p (x ∷ xs) (suc i) d t h = every-at p xs i d (and-right (p x) (every p xs) t) (le-of-suc-le-suc h)
+
+  pub every-set : (p : A → Bool) (l : List A) (i : ℕ) (x : A) → every p l ≡ true → p x ≡ true → every p (set l i x) ≡ true
+  unfolding every
+  every-set p [] i x t h = refl
+  every-set p (y ∷ ys) zero x t h = rw h (and-right (p y) (every p ys) t)
+  every-set p (y ∷ ys) (suc i) x t h = rw (and-left (p y) (every p ys) t) (every-set p ys i x (and-right (p y) (every p ys) t) h)
+
+  -- a test of every element and those after it, with the invariant `tails p (drop i l) ≡ r`
+  pub tails-stop : (p : A → List A → Bool) (l : List A) (i : ℕ) (d : A) {x : A} {r : Bool} → tails p (drop i l) ≡ r → getD l i d ≡ x → p x (drop (i + 1) l) ≡ false
+      → i < length l → false ≡ r
+  unfolding tails
+  tails-stop p l i d inv at e h = rw (drop-step l i d at h, e) at inv
+
+  pub tails-next : (p : A → List A → Bool) (l : List A) (i : ℕ) (d : A) {x : A} {r : Bool} → tails p (drop i l) ≡ r → getD l i d ≡ x → p x (drop (i + 1) l) ≡ true
+      → i < length l → tails p (drop (i + 1) l) ≡ r
+  unfolding tails
+  tails-next p l i d inv at e h = rw (drop-step l i d at h, e) at inv
+
+  pub tails-end : (p : A → List A → Bool) (l : List A) (i : ℕ) {r : Bool} → tails p (drop i l) ≡ r → length l ≤ i → true ≡ r
+  unfolding tails
+  tails-end p l i inv h = rw (drop-of-length-le l h) at inv
+
+  -- a count, with the invariant `n + count p (drop i l) ≡ r`
+  pub count-hit : (p : A → Bool) (l : List A) (i : ℕ) (d : A) (n : ℕ) {x : A} {r : ℕ} → n + count p (drop i l) ≡ r → getD l i d ≡ x → p x ≡ true → i < length l
+      → (n + 1) + count p (drop (i + 1) l) ≡ r
+  unfolding count
+  count-hit p l i d n inv at e h = let q = rw (drop-step l i d at h, e) at inv in omega arith
+
+  pub count-miss : (p : A → Bool) (l : List A) (i : ℕ) (d : A) (n : ℕ) {x : A} {r : ℕ} → n + count p (drop i l) ≡ r → getD l i d ≡ x → p x ≡ false → i < length l
+      → n + count p (drop (i + 1) l) ≡ r
+  unfolding count
+  count-miss p l i d n inv at e h = let q = rw (drop-step l i d at h, e) at inv in omega arith
+
+  pub count-end : (p : A → Bool) (l : List A) (i : ℕ) (n : ℕ) {r : ℕ} → n + count p (drop i l) ≡ r → length l ≤ i → n ≡ r
+  unfolding count
+  count-end p l i n inv h = let q = rw (drop-of-length-le l h) at inv in omega arith
+
+  -- a list that grows at the front of a buffer: the list is `take k buf`, the rest `drop k buf` as at the start
+  pub take-more : (buf : List A) (k : ℕ) (x : A) → k < length buf → take (k + 1) (set buf k x) ≡ take k buf ++ (x ∷ [])
+  take-more buf k x h = rw (add-one, take-suc-set buf k x h) refl
+
+  pub rest-more : (buf buf₀ : List A) (k : ℕ) (x : A) → drop k buf ≡ drop k buf₀ → drop (k + 1) (set buf k x) ≡ drop (k + 1) buf₀
+  rest-more buf buf₀ k x e =
+      drop-set-lt (k + 1) buf k x (omega arith) ∙ (sym (drop-drop 1 k buf) ∙ (ap (λ (l : List A). drop 1 l) e ∙ drop-drop 1 k buf₀))
+
+  pub over-take : (k : ℕ) (buf buf₀ : List A) → k ≤ length buf → drop k buf ≡ drop k buf₀ → buf ≡ over (take k buf) buf₀
+  unfolding over
+  over-take k buf buf₀ h e = rw (length-take-le k buf h, ← e, take-append-drop) refl
+
+  -- the elements that pass a test, moved to the front of a buffer, with the invariant `take k buf ++ keep p (drop i l) ≡ r`
+  pub keep-hit : (p : A → Bool) (l : List A) (i : ℕ) (d : A) (buf : List A) (k : ℕ) {x : A} {r : List A} → take k buf ++ keep p (drop i l) ≡ r → getD l i d ≡ x
+      → p x ≡ true → i < length l → k < length buf → take (k + 1) (set buf k x) ++ keep p (drop (i + 1) l) ≡ r
+  unfolding keep
+  keep-hit p l i d buf k {x} inv at e h m = let q = rw (drop-step l i d at h, e) at inv in rw (take-more buf k x m, append-assoc) q
+
+  pub keep-miss : (p : A → Bool) (l : List A) (i : ℕ) (d : A) (buf : List A) (k : ℕ) {x : A} {r : List A} → take k buf ++ keep p (drop i l) ≡ r → getD l i d ≡ x
+      → p x ≡ false → i < length l → take k buf ++ keep p (drop (i + 1) l) ≡ r
+  unfolding keep
+  keep-miss p l i d buf k inv at e h = rw (drop-step l i d at h, e) at inv
+
+  pub keep-end : (p : A → Bool) (l : List A) (i : ℕ) (buf : List A) (k : ℕ) {r : List A} → take k buf ++ keep p (drop i l) ≡ r → length l ≤ i → take k buf ≡ r
+  unfolding keep
+  keep-end p l i buf k inv h = let q = rw (drop-of-length-le l h) at inv in rw append-nil at q
