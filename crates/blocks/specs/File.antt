@@ -37,15 +37,17 @@ fileRecords file = recordsOf (wholeBlocks file) file
 unfoldable pub notBlocks : List ℕ → Bool
 notBlocks file = not (eqb (length file % 512) 0 && leb 1 (wholeBlocks file) && leb (wholeBlocks file) 128)
 
--- reading needs 496 bytes for each whole block
-abbrev pub readRefusal : List ℕ → List ℕ → Option ℕ
-readRefusal file room =
-    refusal
-    (1 when ltb (length room) (496 * wholeBlocks file)
-    ∷ 2 when notBlocks file
+-- what makes a file wrong, whatever it is read into
+abbrev pub fileChecks : List ℕ → List Check
+fileChecks file =
+    2 when notBlocks file
     ∷ 3 when eqb (fileStage file) 3
     ∷ 4 when eqb (fileStage file) 4
-    ∷ [])
+    ∷ []
+
+-- reading needs 496 bytes for each whole block
+abbrev pub readRefusal : List ℕ → List ℕ → Option ℕ
+readRefusal file room = refusal (1 when ltb (length room) (496 * wholeBlocks file) ∷ fileChecks file)
 
 -- what is written goes from the room's first byte on; a refusal changes nothing
 abbrev pub roomAfter : Option ℕ → List ℕ → List ℕ → List ℕ

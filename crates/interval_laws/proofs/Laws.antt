@@ -1,21 +1,25 @@
 -- THEOREMS, for every legal hierarchy. Least and greatest number are over the reach as a relation of paths. Assumes nothing.
 use mathlib.Core.Path.{_≡_, refl, sym, ap, _∙_, subst}
-use mathlib.Core.List.{List, [], _∷_, map}
-use mathlib.Core.Bool.{Bool, true, false, _&&_}
+use mathlib.Core.List.{List, [], _∷_, _++_, map}
+use mathlib.Core.Bool.{Bool, true, false, _&&_, _||_}
 use mathlib.Core.Option.{Option, none, some}
 use Prim.Native.Nat.{ℕ, zero, suc, _+_, _*_, _≤_, _<_}
 use native.Mathlib.Omega.{arith}
-use lib.Dec.{leb}
-use lib.ListN.{length, getD}
-use borrow.Author.Tests.{le-leb}
-use Rattle.intervals.specs.Lists.{least, greatest}
-use Rattle.intervals.specs.Hierarchy.{edgesOf, children, Edge, Reach, reach, Legal}
+use lib.Dec.{leb, ltb}
+use lib.ListN.{length, getD, take, drop}
+use lib.Seq.{take-append-seam}
+use borrow.Author.Tests.{le-leb, ltb-false}
+use Rattle.intervals.specs.Lists.{least, greatest, over}
+use Rattle.intervals.specs.Answer.{Answer, done, _when_, answerOf}
+use Rattle.intervals.specs.Hierarchy.{edgesOf, children, Edge, Reach, reach, hierarchyChecks, Legal}
 use Rattle.intervals.specs.Hierarchy.Reach.{self, step}
 use Rattle.intervals.specs.Numbering.{numbering}
 use Rattle.intervals.specs.Intervals.{numbersAmong, lowOf, highOf, intervalsFrom, intervalTable}
 use Rattle.intervals.specs.Cover.{lowAt, highAt, intervalAt, callInterval, contains, firstWithin, coverOfInterval, coverOf}
+use Rattle.intervals.specs.Build.{buildShort, buildRefusal, placesAfter, buildStep}
 use Rattle.intervals.specs.declared.Interval.{Interval}
-use Rattle.intervals.proofs.Bools.{and-both}
+use Rattle.intervals.proofs.Bools.{and-both, or-left, or-right, not-both}
+use Rattle.intervals.proofs.Refusals.{refused-later, refusal-none}
 use Rattle.intervals.proofs.Members.{In, head, tail, in-nil, in-cons, least-most, least-is, greatest-least, greatest-is, among-in, among-from}
 use Rattle.intervals.proofs.Reaches.{reach-all, reach-only}
 use Rattle.intervals.proofs.Found.{Found, reached-found}
@@ -241,3 +245,32 @@ pub cover-ends : (table es : List ℕ) (call : Interval)
     → firstWithin table call (coverOfInterval table es call) (children es (coverOfInterval table es call)) ≡ none
 unfolding coverOfInterval
 cover-ends table es call = search-ends table es call _ 0 (omega arith)
+
+-- WHAT BUILDING TAKES AND WRITES. Where it answers unrefused, the hierarchy is legal, nothing was short, and the places begin with the intervals
+pub record Taken (n : ℕ) (edges : List ℕ) (edgeCount : ℕ) (places scratch : List ℕ) : Type 0 where
+  pub legal : Legal n edges edgeCount
+  pub edges-long : 2 * edgeCount ≤ length edges
+  pub wrote : take (2 * n) ((buildStep n edges edgeCount places scratch) .places) ≡ intervalTable n (edgesOf edges edgeCount)
+
+unrefused : (o : Option ℕ) → _≡_ {A = Answer (Unit {0})} (answerOf o tt) (done tt) → o ≡ none
+unrefused none e = refl
+unrefused (some k) e = not-both true refl cc
+
+pub taken : (n : ℕ) (edges : List ℕ) (edgeCount : ℕ) (places scratch : List ℕ) → (buildStep n edges edgeCount places scratch) .answer ≡ done tt
+    → Taken n edges edgeCount places scratch
+unfolding buildStep over
+taken n edges edgeCount places scratch e =
+    let o : buildRefusal n edges edgeCount places scratch ≡ none = unrefused (buildRefusal n edges edgeCount places scratch) e in
+    let short = refusal-none (1 when buildShort n edges edgeCount places scratch ∷ hierarchyChecks n edges edgeCount) o .0 in
+    let table : List ℕ = intervalTable n (edgesOf edges edgeCount) in
+    record {
+      legal = sym (refused-later (1 when buildShort n edges edgeCount places scratch) (hierarchyChecks n edges edgeCount) short) ∙ o;
+      edges-long =
+          ltb-false (length edges) (2 * edgeCount)
+          (or-right (ltb (length places) (2 * n)) (ltb (length edges) (2 * edgeCount))
+          (or-left (ltb (length places) (2 * n) || ltb (length edges) (2 * edgeCount)) (ltb (length scratch) 2048) short));
+      wrote =
+          ap (λ (r : Option ℕ). take (2 * n) (placesAfter r table places)) o
+          ∙ ap (λ (k : ℕ). take k (table ++ drop (length table) places)) (sym (built-length n (edgesOf edges edgeCount)))
+          ∙ take-append-seam table (drop (length table) places);
+    }

@@ -8,3 +8,4 @@ pub mod Found
 pub mod Legals
 pub mod Covers
 pub mod Loops
+pub mod Bounded

@@ -14,6 +14,11 @@ unfoldable pub allBelow : ℕ → (ℕ → Bool) → Bool
 allBelow zero p = true
 allBelow (suc n) p = allBelow n p && p n
 
+-- the test holds at some number below n
+unfoldable pub anyBelow : ℕ → (ℕ → Bool) → Bool
+anyBelow zero p = false
+anyBelow (suc n) p = anyBelow n p || p n
+
 module _ {A : Type 0} where
   -- x before the list where the test holds
   abbrev pub keptIf : Bool → A → List A → List A

@@ -1,0 +1,42 @@
+-- What each case of the steps' answers is in the paper: its number and values. Assumes nothing.
+use mathlib.Core.Bool.{Bool, true, false}
+use Prim.Native.Nat.{ℕ}
+use lib.Dec.{eqb}
+use Rattle.intervals.specs.Answer.{Answer, done, refused}
+use Rattle.desk.specs.declared.EnterAnswer.{EnterAnswer}
+use Rattle.desk.specs.declared.EnterAnswer.the-variants.{Granted, Waits, Refused as EnterRefused}
+use Rattle.desk.specs.declared.GetAnswer.{GetAnswer}
+use Rattle.desk.specs.declared.GetAnswer.the-variants.{Value, Waiting, Refused as GetRefused}
+use Rattle.desk.specs.declared.PutAnswer.{PutAnswer}
+use Rattle.desk.specs.declared.PutAnswer.the-variants.{Stored, Refused as PutRefused}
+use Rattle.desk.specs.declared.LeaveAnswer.{LeaveAnswer}
+use Rattle.desk.specs.declared.LeaveAnswer.the-variants.{Left, Refused as LeaveRefused}
+use Rattle.desk.specs.Steps.{Admission, granted, waits}
+
+abbrev pub enterMeaning : EnterAnswer → Answer Admission
+enterMeaning (Granted cover) = done (granted cover)
+enterMeaning Waits = done waits
+enterMeaning (EnterRefused k) = refused k
+
+-- a caller that finds itself waiting is refused with 14
+abbrev pub getMeaning : GetAnswer → Answer ℕ
+getMeaning (Value value) = done value
+getMeaning Waiting = refused 14
+getMeaning (GetRefused k) = refused k
+
+abbrev pub putMeaning : PutAnswer → Answer (Unit {0})
+putMeaning Stored = done tt
+putMeaning (PutRefused k) = refused k
+
+abbrev pub leaveMeaning : LeaveAnswer → Answer ℕ
+leaveMeaning (Left grants) = done grants
+leaveMeaning (LeaveRefused k) = refused k
+
+-- refusal 14 is answered by the case Waiting, and no other is: two cases of get's answer mean 14, and this one is given
+abbrev pub getRefusedCase : (waiting : Bool) → ℕ → GetAnswer
+getRefusedCase true k = Waiting
+getRefusedCase false k = GetRefused k
+
+abbrev pub getCase : Answer ℕ → GetAnswer
+getCase (done value) = Value value
+getCase (refused k) = getRefusedCase (eqb k 14) k

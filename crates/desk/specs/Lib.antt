@@ -1,0 +1,5 @@
+pub mod Locks
+pub mod Desks
+pub mod Sound
+pub mod Steps
+pub mod Answers

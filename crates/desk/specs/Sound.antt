@@ -1,0 +1,70 @@
+-- A *sound desk*: a definition for each clause of the paper's sentence. Assumes nothing.
+use mathlib.Core.List.{List}
+use mathlib.Core.Bool.{Bool, true, false, not, _&&_, _||_}
+use Prim.Native.Nat.{ℕ}
+use lib.Dec.{eqb, leb, ltb}
+use lib.ListN.{getD, take}
+use Rattle.intervals.specs.Lists.{allBelow, every, any, tails}
+use Rattle.desk.specs.declared.Lock.{Lock}
+use Rattle.desk.specs.declared.Stage.{Stage}
+use Rattle.desk.specs.declared.Stage.the-variants.{Out, Waiting, Holding}
+use Rattle.desk.specs.declared.Entry.{Entry}
+use Rattle.desk.specs.declared.Desk.{Desk}
+use Rattle.desk.specs.Locks.{conflict, realInterval}
+use Rattle.desk.specs.Desks.{Hierarchy, lowIn, highIn, stageAt, isWaiting, queueOf, againstHolder, meetsHolder, meetsWaiter}
+
+-- lists only parties 0 to 31 (and no more of them than its 32 places hold)
+abbrev pub listsParties : Desk → Bool
+listsParties d = leb (d .waiting) 32 && every (λ party. ltb party 32) (queueOf d)
+
+-- each at most once
+abbrev pub listsOnce : Desk → Bool
+listsOnce d = tails (λ party later. not (any (eqb party) later)) (queueOf d)
+
+-- in arrival order just the waiting ones: each that is listed waits, and each that waits is listed
+abbrev pub listsWaiting : Desk → Bool
+listsWaiting d =
+    every (λ party. isWaiting (stageAt d party)) (queueOf d)
+    && allBelow 32 (λ party. not (isWaiting (stageAt d party)) || any (eqb party) (queueOf d))
+
+-- the test holds of the lock that a party holds or waits for
+abbrev pub ofLock : (Lock → Bool) → Stage → Bool
+ofLock p Out = true
+ofLock p (Waiting l) = p l
+ofLock p (Holding l) = p l
+
+-- its intervals lie in 1 to 256, low at most high
+abbrev pub intervalsReal : Desk → Bool
+intervalsReal d = allBelow 32 (λ party. ofLock (λ l. realInterval (l .low) (l .high)) (stageAt d party))
+
+-- a cover is below n and has the hold's interval
+abbrev pub coverRight : Hierarchy → Lock → Bool
+coverRight H l = ltb (l .cover) (H .n) && eqb (lowIn H (l .cover)) (l .low) && eqb (highIn H (l .cover)) (l .high)
+
+abbrev pub coversRight : Hierarchy → Desk → Bool
+coversRight H d = allBelow 32 (λ party. ofLock (coverRight H) (stageAt d party))
+
+-- no two holders conflict
+abbrev pub holdersConflict : Stage → Stage → Bool
+holdersConflict Out s = false
+holdersConflict (Waiting l) s = false
+holdersConflict (Holding l) s = againstHolder l s
+
+abbrev pub holdersApart : Desk → Bool
+holdersApart d = allBelow 32 (λ party. allBelow party (λ other. not (holdersConflict (stageAt d party) (stageAt d other))))
+
+-- each waiter conflicts with a holder or an earlier waiter
+abbrev pub heldUp : List Entry → List ℕ → Stage → Bool
+heldUp entries earlier Out = false
+heldUp entries earlier (Waiting l) = meetsHolder entries l || meetsWaiter entries earlier l
+heldUp entries earlier (Holding l) = false
+
+abbrev pub waitersHeldUp : Desk → Bool
+waitersHeldUp d = allBelow (d .waiting) (λ i. heldUp (d .entries) (take i (d .queue)) (stageAt d (getD (d .queue) i 0)))
+
+-- a sound desk
+unfoldable pub soundDesk : Hierarchy → Desk → Bool
+soundDesk H d =
+    listsParties d && listsOnce d && listsWaiting d
+    && intervalsReal d && coversRight H d
+    && holdersApart d && waitersHeldUp d

@@ -1,0 +1,2 @@
+-- Starred has the one theorem.
+pub mod Starred

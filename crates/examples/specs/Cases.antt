@@ -1,0 +1,88 @@
+-- The kinds of starred cases, and the test that a case passes. Assumes nothing.
+use mathlib.Core.List.{List, [], _∷_, _++_}
+use mathlib.Core.Bool.{Bool, true, false, _&&_, _||_}
+use Prim.Native.Nat.{ℕ, _*_, _/_}
+use lib.Dec.{eqb}
+use lib.ListN.{length, replicate}
+use Rattle.intervals.specs.Answer.{Answer, done, refused as denied}
+use Rattle.intervals.specs.Hierarchy.{reach}
+use Rattle.intervals.specs.Build.{BuildResult, buildStep}
+use Rattle.intervals.specs.Cover.{lowAt, highAt, coverOf}
+use Rattle.blocks.specs.File.{fileOf}
+use Rattle.replay.specs.Replay.{StepAnswer, granted, waits, value, stored, left, refused, FileRun, runFile}
+
+-- a case, with what the paper says of it
+pub data Case : Type 0 where
+  -- n, the edges, and low and high in turn for each node
+  intervals : (n : ℕ) (edges expected : List ℕ) → Case
+  -- n, the edges, the named nodes, and the cover
+  cover : (n : ℕ) (edges names : List ℕ) (expected : ℕ) → Case
+  -- n, the edges, two nodes that share nothing in their reach, low and high of the first, and a file with what its listing has
+  apart : (n : ℕ) (edges : List ℕ) (first second low high : ℕ) (records : List (List ℕ)) (answers : List StepAnswer) (holders waiters grants : ℕ) → Case
+  -- the records of a file, the answers of its steps, and holders, waiters and grants at the end
+  listing : (records : List (List ℕ)) (answers : List StepAnswer) (holders waiters grants : ℕ) → Case
+
+-- two lists of numbers are the same
+unfoldable pub sameNumbers : List ℕ → List ℕ → Bool
+sameNumbers [] [] = true
+sameNumbers [] (y ∷ ys) = false
+sameNumbers (x ∷ xs) [] = false
+sameNumbers (x ∷ xs) (y ∷ ys) = eqb x y && sameNumbers xs ys
+
+-- an answer as numbers: its word, then its values
+unfoldable pub asNumbers : StepAnswer → List ℕ
+asNumbers (granted node) = 1 ∷ node ∷ []
+asNumbers waits = 2 ∷ []
+asNumbers (value number) = 3 ∷ number ∷ []
+asNumbers stored = 4 ∷ []
+asNumbers (left parties) = 5 ∷ parties
+asNumbers (refused number) = 6 ∷ number ∷ []
+
+-- the answers are the expected ones
+unfoldable pub sameAnswers : List StepAnswer → List StepAnswer → Bool
+sameAnswers [] [] = true
+sameAnswers [] (b ∷ bs) = false
+sameAnswers (a ∷ xs) [] = false
+sameAnswers (a ∷ xs) (b ∷ bs) = sameNumbers (asNumbers a) (asNumbers b) && sameAnswers xs bs
+
+-- building, lent just what it needs
+abbrev pub built : ℕ → List ℕ → BuildResult
+built n edges = buildStep n edges (length edges / 2) (replicate (2 * n) 0) (replicate 2048 0)
+
+-- it is not refused, and writes the expected numbers
+unfoldable pub wrote : BuildResult → List ℕ → Bool
+wrote result expected = isDone (result .answer) && sameNumbers (result .places) expected
+  where
+    isDone : Answer (Unit {0}) → Bool
+    isDone (done _) = true
+    isDone (denied k) = false
+
+-- no node is in both sets
+unfoldable pub disjoint : List ℕ → List ℕ → Bool
+disjoint [] gs = true
+disjoint (f ∷ fs) [] = true
+disjoint (f ∷ fs) (g ∷ gs) = (eqb f 0 || eqb g 0) && disjoint fs gs
+
+-- a file's run gives these answers and this end
+unfoldable pub gave : Answer FileRun → List StepAnswer → ℕ → ℕ → ℕ → Bool
+gave (done run) answers holders waiters grants =
+    sameAnswers (run .answers) answers && eqb (run .holders) holders && eqb (run .waiters) waiters && eqb (run .grants) grants
+gave (denied k) answers holders waiters grants = false
+
+-- the file of the records
+abbrev pub written : List (List ℕ) → List ℕ
+written records = fileOf (flat records) (length records)
+  where
+    flat : List (List ℕ) → List ℕ
+    flat [] = []
+    flat (r ∷ rs) = r ++ flat rs
+
+-- THE TEST
+unfoldable pub passes : Case → Bool
+passes (intervals n edges expected) = wrote (built n edges) expected
+passes (cover n edges names expected) = eqb (coverOf ((built n edges) .places) edges names) expected
+passes (apart n edges first second low high records answers holders waiters grants) =
+    disjoint (reach n edges first) (reach n edges second)
+    && eqb (lowAt ((built n edges) .places) first) low && eqb (highAt ((built n edges) .places) first) high
+    && gave (runFile (written records)) answers holders waiters grants
+passes (listing records answers holders waiters grants) = gave (runFile (written records)) answers holders waiters grants

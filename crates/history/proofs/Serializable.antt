@@ -1,0 +1,296 @@
+-- DEMAND 3, one theorem over a whole list of steps: `serializable`, from any start values, and `demand-3`, from zeros. Assumes nothing.
+use mathlib.Core.Path.{_≡_, refl, sym, ap, _∙_}
+use mathlib.Core.Logic.{_⊎_, inl, inr, _≢_}
+use mathlib.Core.List.{List, [], _∷_, _++_, map}
+use mathlib.Core.Bool.{Bool, true, false, not, _&&_, _||_, true≢false}
+use mathlib.Core.Option.{Option, none, some}
+use Prim.Native.Nat.{ℕ, zero, suc, _+_, _*_, _≤_, _<_}
+use native.Mathlib.Omega.{arith}
+use lib.Dec.{eqb, leb, ltb}
+use lib.ListN.{length, getD, set, take, drop, replicate, length-set, length-replicate}
+use lib.Seq.{take-append-seam}
+use borrow.Author.Tests.{eqb-true, eqb-false, eq-eqb, leb-true, le-leb, not-false}
+use Rattle.intervals.specs.Lists.{keep, over}
+use Rattle.intervals.specs.Answer.{Check, _when_, refusal}
+use Rattle.intervals.proofs.Bools.{and-left, and-right}
+use Rattle.intervals.proofs.Refusals.{NoneHolds, refusal-none}
+use Rattle.interval_laws.proofs.Laws.{built-length, taken}
+use Rattle.desk.specs.declared.Mode.{Mode}
+use Rattle.desk.specs.declared.Mode.the-variants.{Reading, Writing}
+use Rattle.desk.specs.declared.Lock.{Lock}
+use Rattle.desk.specs.declared.Stage.{Stage}
+use Rattle.desk.specs.declared.Stage.the-variants.{Out, Waiting, Holding}
+use Rattle.desk.specs.declared.Desk.{Desk}
+use Rattle.desk.specs.Locks.{bothReading, share, conflict}
+use Rattle.desk.specs.Desks.{Hierarchy, lowIn, highIn, coverIn, entryOf, stageAt, queueOf}
+use Rattle.desk.specs.Steps.{enterRefusal, lockOn, leaveRefusal, free, grantTo, queueLast, enterIf, enterUnless, enterStep, insideLock, valueChecks, getUnless, getStep, isReading, readsOnly, putUnless, putStep, Sweep, sweep, afterLeaving, leaveWith, leaveUnless, leaveStep}
+use Rattle.history.specs.History.{Op, didGet, didPut, Transaction, begun, visited, addToLatest, Event, noted, historyFrom, history, bare, bareEvent, opsIn, counted, countedFrom, finds, leaves, serialFinds, serialLeaves}
+use Rattle.history.specs.Run.{Lending, lend, restored, Call, enter, get, put, leave, Step, lentTo, State, start, Moved, afterEnter, afterGet, afterPut, listed, afterLeave, moveCall, move, Ran, alsoRan, run}
+use Rattle.history.specs.Serial.{Built, rowOf, Serial}
+use Rattle.history.proofs.Rows.{nodeOf, IsGet, Commute, Clear, Clear-map, Clear-new, Clear-granted, Clear-add, Clear-visited, insert-leaves, insert-finds, append-leaves, append-finds, opsIn-add, opsIn-new, row-order}
+use Rattle.history.proofs.Facts.{lend-at, restored-lend, restored-lend-set, set-stage, holder-below, all-out, sweep-length, sweep-holds, Touch, touch, holders-apart}
+
+-- MODES AND LOCKS
+reading≢writing : Reading ≢ Writing
+reading≢writing e = let z : _≡_ {A = ℕ} 0 1 = cc in omega arith
+
+both-read : (a b : Mode) → bothReading a b ≡ true → (a ≡ Reading) × (b ≡ Reading)
+both-read Reading Reading e = (refl, refl)
+both-read Reading Writing e = absurd (true≢false (sym e))
+both-read Writing Reading e = absurd (true≢false (sym e))
+both-read Writing Writing e = absurd (true≢false (sym e))
+
+is-writing : (m : Mode) → isReading m ≡ false → m ≡ Writing
+is-writing Reading e = absurd (true≢false e)
+is-writing Writing e = refl
+
+no-conflict : (a b : Lock) → conflict a b ≡ false → share a b ≡ true → (a .mode ≡ Reading) × (b .mode ≡ Reading)
+no-conflict a b c s = both-read (a .mode) (b .mode) (not-false (bothReading (a .mode) (b .mode)) (rw s at c))
+
+-- two locks around one node share a number
+sharing : (H : Hierarchy) (node : ℕ) (a b : Lock) → lowIn H node ≤ highIn H node → insideLock H node a ≡ true → insideLock H node b ≡ true → share a b ≡ true
+sharing H node a b o i j =
+    let al = leb-true (a .low) (lowIn H node) (and-left _ _ i) in
+    let ah = leb-true (highIn H node) (a .high) (and-right (leb (a .low) (lowIn H node)) _ i) in
+    let bl = leb-true (b .low) (lowIn H node) (and-left _ _ j) in
+    let bh = leb-true (highIn H node) (b .high) (and-right (leb (b .low) (lowIn H node)) _ j) in
+    rw (le-leb (a .low) (b .high) (omega arith), le-leb (b .low) (a .high) (omega arith))
+
+length-leaves : {A : Type 0} (u : List ℕ) (o : Op A) → length (leaves u o) ≡ length u
+unfolding leaves
+length-leaves u (didGet r a) = refl
+length-leaves u (didPut r x) = length-set u r x
+
+-- the op is on a node whose interval is not inside the lock's, or both read
+Safe : {A : Type 0} → Hierarchy → Lock → Op A → Type 0
+Safe H l o = insideLock H (nodeOf o) l ≡ true → (l .mode ≡ Reading) × IsGet o
+
+-- an op of the holder's own, and one that is safe for its lock, commute
+own-commutes : {A : Type 0} (H : Hierarchy) (l : Lock) (o : Op A) → insideLock H (nodeOf o) l ≡ true → IsGet o ⊎ (l .mode ≡ Writing) → (k : Op A) → Safe H l k → Commute o k
+unfolding Commute Safe
+own-commutes H l o i own k s = step (eqb (nodeOf o) (nodeOf k)) refl own
+  where
+    step : (b : Bool) → eqb (nodeOf o) (nodeOf k) ≡ b → IsGet o ⊎ (l .mode ≡ Writing) → (nodeOf o ≢ nodeOf k) ⊎ (IsGet o × IsGet k)
+    step false e w = inl (eqb-false _ _ e)
+    step true e (inl g) = inr (g, (s (rw (eqb-true (nodeOf o) (nodeOf k) e) at i)) .1)
+    step true e (inr w) = absurd (reading≢writing (sym ((s (rw (eqb-true (nodeOf o) (nodeOf k) e) at i)) .0) ∙ w))
+
+-- and it is safe for every other holder
+own-safe : {A : Type 0} (H : Hierarchy) (l g : Lock) (o : Op A) → lowIn H (nodeOf o) ≤ highIn H (nodeOf o) → insideLock H (nodeOf o) l ≡ true → IsGet o ⊎ (l .mode ≡ Writing)
+    → conflict g l ≡ false → Safe H g o
+unfolding Safe
+own-safe H l g o h i own c j = step own (no-conflict g l c (sharing H (nodeOf o) g l h j i))
+  where
+    step : IsGet o ⊎ (l .mode ≡ Writing) → (g .mode ≡ Reading) × (l .mode ≡ Reading) → (g .mode ≡ Reading) × IsGet o
+    step (inl k) b = (b .0, k)
+    step (inr w) b = absurd (reading≢writing (sym (b .1) ∙ w))
+
+-- the intervals as lent are the hierarchy's
+low-lent : (H : Hierarchy) (x : Step) (node : ℕ) → length (H .intervals) ≡ 2 * H .n → node < H .n → 2 * H .n ≤ length ((lentTo x H) .intervals) → lowIn (lentTo x H) node ≡ lowIn H node
+unfolding lentTo
+low-lent H x node b h t = lend-at (H .intervals) (x .intervals) (2 * node) (omega arith) (omega arith)
+
+high-lent : (H : Hierarchy) (x : Step) (node : ℕ) → length (H .intervals) ≡ 2 * H .n → node < H .n → 2 * H .n ≤ length ((lentTo x H) .intervals) → highIn (lentTo x H) node ≡ highIn H node
+unfolding lentTo
+high-lent H x node b h t = lend-at (H .intervals) (x .intervals) (2 * node + 1) (omega arith) (omega arith)
+
+-- over one hierarchy with two numbers for each node, from the values u
+module _ (H : Hierarchy) (two-each : length (H .intervals) ≡ 2 * H .n) (u : List ℕ) where
+  -- THE INVARIANT between two steps. row: the book's; answered: the same with each get's answer noted; m: the gets and puts not refused
+  record Kept (s : State) (row : List (Transaction (Unit {0}))) (answered : List (Transaction ℕ)) (m : ℕ) : Type 0 where
+    sized : length (s .values) ≡ H .n
+    parties : length (s .desk .entries) ≡ 32
+    values : s .values ≡ serialLeaves u row
+    notes : answered ≡ serialFinds u row
+    whole : opsIn row ≡ m
+    clear : (q : ℕ) (l : Lock) → stageAt (s .desk) q ≡ Holding l → Clear (Safe H l) q row
+
+  -- the step's event takes the invariant on
+  Onward : List (Transaction (Unit {0})) → List (Transaction ℕ) → ℕ → Moved → Type 0
+  Onward row notes m x = Kept (x .state) (noted row (bareEvent (x .event))) (noted notes (x .event)) (counted m (x .event))
+
+  module _ (s : State) (row : List (Transaction (Unit {0}))) (notes : List (Transaction ℕ)) (m : ℕ) (k : Kept s row notes m) where
+    -- A GET OR PUT: p, which holds l, does o
+    touched : (p : ℕ) (l : Lock) (o : Op (Unit {0})) → stageAt (s .desk) p ≡ Holding l → lowIn H (nodeOf o) ≤ highIn H (nodeOf o) → insideLock H (nodeOf o) l ≡ true
+        → IsGet o ⊎ (l .mode ≡ Writing) → ((q : ℕ) (g : Lock) → p ≢ q → stageAt (s .desk) q ≡ Holding g → conflict g l ≡ false)
+        → Kept (record { desk = s .desk; values = leaves (s .values) o }) (addToLatest p o row) (addToLatest p (finds (s .values) o) notes) (suc m)
+    touched p l o e h i own apart = record {
+      sized = length-leaves (s .values) o ∙ k .sized;
+      parties = k .parties;
+      values = ap (λ w. leaves w o) (k .values) ∙ sym (insert-leaves u p o row mine);
+      notes = rw (k .values, k .notes) (sym (insert-finds u p o row mine));
+      whole = opsIn-add p o row (Clear-visited (k .clear p l e)) ∙ ap suc (k .whole);
+      clear = λ q g eg. Clear-add (Safe H g) q p o row (other q g eg (eqb p q) refl) (k .clear q g eg);
+    }
+      where
+        mine : Clear (Commute o) p row
+        mine = Clear-map (own-commutes H l o i own) (k .clear p l e)
+
+        other : (q : ℕ) (g : Lock) → stageAt (s .desk) q ≡ Holding g → (b : Bool) → eqb p q ≡ b → (p ≡ q) ⊎ Safe H g o
+        other q g eg true eb = inl (eqb-true p q eb)
+        other q g eg false eb = inr (own-safe H l g o h i own (apart q g (eqb-false p q eb) eg))
+
+    -- A NEW DESK d, whose holders held before or have a new visit among those of qs
+    granted-kept : (d : Desk) (qs : List ℕ) → length (d .entries) ≡ 32
+        → ((q : ℕ) (l : Lock) → stageAt d q ≡ Holding l → (visited {A = Unit {0}} q (map begun qs) ≡ true) ⊎ (stageAt (s .desk) q ≡ Holding l))
+        → Kept (record { desk = d; values = s .values }) (row ++ map begun qs) (notes ++ map begun qs) m
+    granted-kept d qs long from = record {
+      sized = k .sized;
+      parties = long;
+      values = k .values ∙ sym (append-leaves u row qs);
+      notes = ap (_++ map begun qs) (k .notes) ∙ sym (append-finds u row qs);
+      whole = opsIn-new row qs ∙ k .whole;
+      clear = λ q l e. step q l (from q l e);
+    }
+      where
+        step : (q : ℕ) (l : Lock) → (visited {A = Unit {0}} q (map begun qs) ≡ true) ⊎ (stageAt (s .desk) q ≡ Holding l) → Clear (Safe H l) q (row ++ map begun qs)
+        step q l (inl v) = Clear-granted (Safe H l) q row qs v
+        step q l (inr e) = Clear-new (Safe H l) q row qs (k .clear q l e)
+
+    -- ENTER
+    enter-kept : (p : ℕ) (l : Lock) (o : Option ℕ) → Onward row notes m (afterEnter p s (enterUnless o (s .desk) p l))
+    unfolding Onward afterEnter visited begun noted counted bareEvent
+    enter-kept p l (some n) = k
+    enter-kept p l none = step (free (s .desk) l)
+      where
+        long : (x : Stage) → length (set (s .desk .entries) p (entryOf x)) ≡ 32
+        long x = length-set (s .desk .entries) p (entryOf x) ∙ k .parties
+
+        step : (b : Bool) → Onward row notes m (afterEnter p s (enterIf b (s .desk) p l))
+        step true = granted-kept (grantTo (s .desk) p l) (p ∷ []) (long (Holding l)) (λ q g e. new q g (set-stage (s .desk .entries) p q (Holding l) g e))
+          where
+            new : (q : ℕ) (g : Lock) → ((p ≡ q) × (Holding l ≡ Holding g)) ⊎ (stageAt (s .desk) q ≡ Holding g) → ((eqb p q || false) ≡ true) ⊎ (stageAt (s .desk) q ≡ Holding g)
+            new q g (inl e) = inl (rw (eq-eqb p q (e .0)))
+            new q g (inr e) = inr e
+        step false = record {
+          sized = k .sized;
+          parties = long (Waiting l);
+          values = k .values;
+          notes = k .notes;
+          whole = k .whole;
+          clear = λ q g e. old q g (set-stage (s .desk .entries) p q (Waiting l) g e);
+        }
+          where
+            old : (q : ℕ) (g : Lock) → ((p ≡ q) × (Waiting l ≡ Holding g)) ⊎ (stageAt (s .desk) q ≡ Holding g) → Clear (Safe H g) q row
+            old q g (inl e) = absurd (let z : _≡_ {A = ℕ} 0 1 = cc in omega arith)
+            old q g (inr e) = k .clear q g e
+
+    -- LEAVE
+    leave-kept : (p : ℕ) (list : List ℕ) (o : Option ℕ) → Onward row notes m (afterLeave p s (leaveUnless o (s .desk) p list))
+    unfolding Onward afterLeave noted counted bareEvent listed over
+    leave-kept p list (some n) = k
+    leave-kept p list none =
+        rw (take-append-seam (t .granted) (drop (length (t .granted)) list))
+        (granted-kept ((leaveWith t (s .desk) list) .desk) (t .granted) (sweep-length others from₀ ∙ length-set (s .desk .entries) p (entryOf Out) ∙ k .parties)
+        (λ q l e. held q l (sweep-holds q l others from₀ e)))
+      where
+        from₀ : Sweep
+        from₀ = record { entries = set (s .desk .entries) p (entryOf Out); stay = []; granted = [] }
+
+        others : List ℕ
+        others = keep (λ other. not (eqb other p)) (queueOf (s .desk))
+
+        t : Sweep
+        t = sweep from₀ others
+
+        was : (q : ℕ) (l : Lock) → ((p ≡ q) × (Out ≡ Holding l)) ⊎ (stageAt (s .desk) q ≡ Holding l) → stageAt (s .desk) q ≡ Holding l
+        was q l (inl e) = absurd (let z : _≡_ {A = ℕ} 0 1 = cc in omega arith)
+        was q l (inr e) = e
+
+        held : (q : ℕ) (l : Lock) → (visited {A = Unit {0}} q (map begun (t .granted)) ≡ true) ⊎ (stageAt (record { entries = from₀ .entries; queue = []; waiting = 0; grants = 0 }) q ≡ Holding l)
+            → (visited {A = Unit {0}} q (map begun (t .granted)) ≡ true) ⊎ (stageAt (s .desk) q ≡ Holding l)
+        held q l (inl v) = inl v
+        held q l (inr e) = inr (was q l (set-stage (s .desk .entries) p q Out l e))
+
+    -- GET and PUT share this
+    touch-kept : (x : Step) (l : Lending) (p : ℕ) (o : Op (Unit {0})) → (t : Touch (lentTo x H) (lend (s .values) l) (s .desk) p (nodeOf o)) → IsGet o ⊎ (t .hold .mode ≡ Writing)
+        → Kept (record { desk = s .desk; values = leaves (s .values) o }) (addToLatest p o row) (addToLatest p (finds (s .values) o) notes) (suc m)
+    unfolding lentTo
+    touch-kept x l p o t own =
+        touched p (t .hold) o (t .holds) (rw (low, high) at (t .ordered)) (rw (low, high) at (t .within)) own
+        (λ q g ne e. holders-apart (lentTo x H) (s .desk) (t .sound) p q (t .hold) g (t .party) (omega (arith, holder-below (s .desk .entries) q g e, k .parties)) ne (t .holds) e)
+      where
+        low : lowIn (lentTo x H) (nodeOf o) ≡ lowIn H (nodeOf o)
+        low = low-lent H x (nodeOf o) two-each (t .named) (t .tables)
+
+        high : highIn (lentTo x H) (nodeOf o) ≡ highIn H (nodeOf o)
+        high = high-lent H x (nodeOf o) two-each (t .named) (t .tables)
+
+    get-kept : (x : Step) (l : Lending) (p node : ℕ) (o : Option ℕ) → (o ≡ none → Touch (lentTo x H) (lend (s .values) l) (s .desk) p node)
+        → Onward row notes m (afterGet p node s (getUnless o (s .desk) (getD (lend (s .values) l) node 0)))
+    unfolding Onward afterGet noted counted bareEvent bare leaves finds nodeOf IsGet lentTo
+    get-kept x l p node (some n) t = k
+    get-kept x l p node none t =
+        let g : Touch (lentTo x H) (lend (s .values) l) (s .desk) p node = t refl in
+        let size : length (s .values) ≡ H .n = k .sized in
+        rw (lend-at (s .values) l node (omega (arith, g .named)) (omega (arith, g .enough)))
+        (touch-kept x l p (didGet node tt) g (inl tt))
+
+    put-kept : (x : Step) (l : Lending) (p node value : ℕ) (o : Option ℕ)
+        → (o ≡ none → Touch (lentTo x H) (lend (s .values) l) (s .desk) p node × (readsOnly (stageAt (s .desk) p) ≡ false))
+        → Onward row notes m (afterPut p node value s (putUnless o (s .desk) node value (lend (s .values) l)))
+    unfolding Onward afterPut noted counted bareEvent bare leaves finds nodeOf IsGet lentTo
+    put-kept x l p node value (some n) t = rw (restored-lend (s .values) l) k
+    put-kept x l p node value none t =
+        let g : Touch (lentTo x H) (lend (s .values) l) (s .desk) p node = t refl .0 in
+        let size : length (s .values) ≡ H .n = k .sized in
+        let writes : readsOnly (stageAt (s .desk) p) ≡ false = t refl .1 in
+        rw (restored-lend-set (s .values) l node value (omega (arith, g .named, g .enough)))
+        (touch-kept x l p (didPut node value) g (inr (is-writing (g .hold .mode) (rw (g .holds) at writes))))
+
+    call-kept : (x : Step) (c : Call) → Onward row notes m (moveCall (lentTo x H) c s)
+    unfolding moveCall enterStep getStep putStep leaveStep
+    call-kept x (enter p mode names nameCount) =
+        enter-kept p (lockOn (lentTo x H) mode (coverIn (lentTo x H) (take nameCount names))) (enterRefusal (lentTo x H) (s .desk) p names nameCount)
+    call-kept x (get p node l) =
+        get-kept x l p node (refusal (valueChecks (lentTo x H) (s .desk) p node (lend (s .values) l) []))
+        (λ e. touch (lentTo x H) (s .desk) p node (lend (s .values) l) [] (refusal-none (valueChecks (lentTo x H) (s .desk) p node (lend (s .values) l) []) e))
+    call-kept x (put p node value l) = put-kept x l p node value (refusal (valueChecks (lentTo x H) (s .desk) p node (lend (s .values) l) own)) facts
+      where
+        own : List Check
+        own = 17 when readsOnly (stageAt (s .desk) p) ∷ []
+
+        facts : refusal (valueChecks (lentTo x H) (s .desk) p node (lend (s .values) l) own) ≡ none
+            → Touch (lentTo x H) (lend (s .values) l) (s .desk) p node × (readsOnly (stageAt (s .desk) p) ≡ false)
+        facts e =
+            let f = refusal-none (valueChecks (lentTo x H) (s .desk) p node (lend (s .values) l) own) e in
+            (touch (lentTo x H) (s .desk) p node (lend (s .values) l) own f, f .1 .1 .1 .1 .1 .1 .1 .1 .1 .1 .0)
+    call-kept x (leave p list) = leave-kept p list (leaveRefusal (lentTo x H) (s .desk) p list)
+
+  run-kept : (xs : List Step) (s : State) (row : List (Transaction (Unit {0}))) (notes : List (Transaction ℕ)) (m : ℕ) → Kept s row notes m
+      → Kept ((run H xs s) .state) (historyFrom row (map bareEvent ((run H xs s) .events))) (historyFrom notes ((run H xs s) .events)) (countedFrom m ((run H xs s) .events))
+  unfolding run alsoRan historyFrom countedFrom move
+  run-kept [] s row notes m k = k
+  run-kept (x ∷ xs) s row notes m k = run-kept xs _ _ _ _ (unfold Onward in call-kept s row notes m k x (x .call))
+
+  start-kept : length u ≡ H .n → Kept (start u) [] [] 0
+  unfolding start serialLeaves serialFinds opsIn
+  start-kept h = record {
+    sized = h;
+    parties = refl;
+    values = refl;
+    notes = refl;
+    whole = refl;
+    clear = λ q l e. nobody l (sym (all-out 32 q) ∙ e);
+  }
+    where
+      nobody : {X : Type 0} (l : Lock) → Out ≡ Holding l → X
+      nobody l e = absurd (let z : _≡_ {A = ℕ} 0 1 = cc in omega arith)
+
+-- a built hierarchy has two numbers for each node
+pub built-two-each : (H : Hierarchy) → Built H → length (H .intervals) ≡ 2 * H .n
+built-two-each H b =
+    ap length (b .wrote ∙ taken (H .n) (H .edges) (H .edgeCount) (b .places) (b .scratch) (b .took) .wrote) ∙ built-length (H .n) _
+
+-- THE THEOREM: over a built hierarchy, any list of steps, from a fresh desk and any n values, leaves and answers what the whole visits do,
+-- performed in order of granting from those values
+pub serializable : (H : Hierarchy) → Built H → (values : List ℕ) → length values ≡ H .n → (steps : List Step) → Serial values (run H steps (start values))
+unfolding history
+serializable H b values sized steps =
+    let two = built-two-each H b in
+    let k = run-kept H two values steps (start values) [] [] 0 (start-kept H two values sized) in
+    record { leaves = k .values; answers = k .notes; whole = k .whole; order = row-order ((run H steps (start values)) .events) }
+
+-- demand 3: from n values of zero
+pub demand-3 : (H : Hierarchy) → Built H → (steps : List Step) → Serial (replicate (H .n) 0) (run H steps (start (replicate (H .n) 0)))
+demand-3 H b steps = serializable H b (replicate (H .n) 0) (length-replicate (H .n) 0) steps

@@ -1,0 +1,71 @@
+-- THEOREMS about the desk: a refused step changes nothing, and a fresh desk is sound. Assumes nothing.
+use mathlib.Core.Path.{_≡_, refl, sym, ap, _∙_}
+use mathlib.Core.List.{List, [], _∷_}
+use mathlib.Core.Bool.{Bool, true, false}
+use mathlib.Core.Option.{Option, none, some}
+use Prim.Native.Nat.{ℕ, zero, suc}
+use lib.ListN.{getD, take}
+use Rattle.intervals.specs.Lists.{allBelow, anyBelow, every, any, tails}
+use Rattle.intervals.specs.Answer.{Answer, done, refused, _when_, refusal}
+use Rattle.intervals.proofs.Bools.{not-both}
+use Rattle.desk.specs.declared.Mode.{Mode}
+use Rattle.desk.specs.declared.Lock.{Lock}
+use Rattle.desk.specs.declared.Desk.{Desk}
+use Rattle.desk.specs.Desks.{Hierarchy, freshDesk, coverIn, stageAt}
+use Rattle.desk.specs.Sound.{soundDesk}
+use Rattle.desk.specs.Steps.{free, lockOn, enterRefusal, enterIf, enterUnless, enterStep, valueChecks, getUnless, getStep, readsOnly, putUnless, putStep, leaveRefusal, leaveUnless, leaveStep}
+
+-- A REFUSED STEP CHANGES NOTHING: the desk handed back is the one given, and so is every buffer
+pub refused-enter : (H : Hierarchy) (d : Desk) (party : ℕ) (mode : Mode) (names : List ℕ) (nameCount k : ℕ)
+    → (enterStep H d party mode names nameCount) .answer ≡ refused k → (enterStep H d party mode names nameCount) .desk ≡ d
+unfolding enterStep
+refused-enter H d party mode names nameCount k e = by (enterRefusal H d party names nameCount) (lockOn H mode (coverIn H (take nameCount names))) e
+  where
+    admitted : (b : Bool) (l : Lock) → (enterIf b d party l) .answer ≡ refused k → (enterIf b d party l) .desk ≡ d
+    admitted true l e = not-both true refl cc
+    admitted false l e = not-both true refl cc
+
+    by : (o : Option ℕ) (l : Lock) → (enterUnless o d party l) .answer ≡ refused k → (enterUnless o d party l) .desk ≡ d
+    by (some j) l e = refl
+    by none l e = admitted (free d l) l e
+
+-- get changes nothing in any case
+pub unchanged-get : (H : Hierarchy) (d : Desk) (party node : ℕ) (values : List ℕ) → (getStep H d party node values) .desk ≡ d
+unfolding getStep
+unchanged-get H d party node values = by (refusal (valueChecks H d party node values [])) (getD values node 0)
+  where
+    by : (o : Option ℕ) (x : ℕ) → (getUnless o d x) .desk ≡ d
+    by (some j) x = refl
+    by none x = refl
+
+-- put changes no desk in any case
+pub unchanged-put : (H : Hierarchy) (d : Desk) (party node value : ℕ) (values : List ℕ) → (putStep H d party node value values) .desk ≡ d
+unfolding putStep
+unchanged-put H d party node value values = by (refusal (valueChecks H d party node values (17 when readsOnly (stageAt d party) ∷ [])))
+  where
+    by : (o : Option ℕ) → (putUnless o d node value values) .desk ≡ d
+    by (some j) = refl
+    by none = refl
+
+pub refused-put : (H : Hierarchy) (d : Desk) (party node value k : ℕ) (values : List ℕ) → (putStep H d party node value values) .answer ≡ refused k
+    → (putStep H d party node value values) .values ≡ values
+unfolding putStep
+refused-put H d party node value k values e = by (refusal (valueChecks H d party node values (17 when readsOnly (stageAt d party) ∷ []))) e
+  where
+    by : (o : Option ℕ) → (putUnless o d node value values) .answer ≡ refused k → (putUnless o d node value values) .values ≡ values
+    by (some j) e = refl
+    by none e = not-both true refl cc
+
+pub refused-leave : (H : Hierarchy) (d : Desk) (party k : ℕ) (list : List ℕ) → (leaveStep H d party list) .answer ≡ refused k
+    → ((leaveStep H d party list) .desk ≡ d) × ((leaveStep H d party list) .list ≡ list)
+unfolding leaveStep
+refused-leave H d party k list e = by (leaveRefusal H d party list) e
+  where
+    by : (o : Option ℕ) → (leaveUnless o d party list) .answer ≡ refused k → ((leaveUnless o d party list) .desk ≡ d) × ((leaveUnless o d party list) .list ≡ list)
+    by (some j) e = (refl, refl)
+    by none e = not-both true refl cc
+
+-- A FRESH DESK IS SOUND, over every hierarchy whatever, so over every built one
+pub fresh-sound : (H : Hierarchy) → soundDesk H freshDesk ≡ true
+unfolding soundDesk allBelow anyBelow every any tails
+fresh-sound H = refl

@@ -1,0 +1,2 @@
+-- What holds of every step: Laws has the theorems.
+pub mod Laws
