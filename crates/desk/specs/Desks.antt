@@ -55,6 +55,10 @@ isWaiting Out = false
 isWaiting (Waiting l) = true
 isWaiting (Holding l) = false
 
+-- the party at a place of the arrival list
+abbrev pub listedAt : Desk → ℕ → ℕ
+listedAt d i = getD (d .queue) i 0
+
 -- arrival order: the waiting parties, first come first
 abbrev pub queueOf : Desk → List ℕ
 queueOf d = take (d .waiting) (d .queue)

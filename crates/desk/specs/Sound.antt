@@ -3,29 +3,32 @@ use mathlib.Core.List.{List}
 use mathlib.Core.Bool.{Bool, true, false, not, _&&_, _||_}
 use Prim.Native.Nat.{ℕ}
 use lib.Dec.{eqb, leb, ltb}
-use lib.ListN.{getD, take}
-use Rattle.intervals.specs.Lists.{allBelow, every, any, tails}
+use lib.ListN.{take}
+use Rattle.intervals.specs.Lists.{allBelow, anyBelow}
 use Rattle.desk.specs.declared.Lock.{Lock}
 use Rattle.desk.specs.declared.Stage.{Stage}
 use Rattle.desk.specs.declared.Stage.the-variants.{Out, Waiting, Holding}
 use Rattle.desk.specs.declared.Entry.{Entry}
 use Rattle.desk.specs.declared.Desk.{Desk}
 use Rattle.desk.specs.Locks.{conflict, realInterval}
-use Rattle.desk.specs.Desks.{Hierarchy, lowIn, highIn, stageAt, isWaiting, queueOf, againstHolder, meetsHolder, meetsWaiter}
+use Rattle.desk.specs.Desks.{Hierarchy, lowIn, highIn, stageAt, isWaiting, listedAt, againstHolder, meetsHolder, meetsWaiter}
 
 -- lists only parties 0 to 31 (and no more of them than its 32 places hold)
 abbrev pub listsParties : Desk → Bool
-listsParties d = leb (d .waiting) 32 && every (λ party. ltb party 32) (queueOf d)
+listsParties d = leb (d .waiting) 32 && allBelow (d .waiting) (λ i. ltb (listedAt d i) 32)
 
--- each at most once
+-- each at most once: no two places of the list have the same party
 abbrev pub listsOnce : Desk → Bool
-listsOnce d = tails (λ party later. not (any (eqb party) later)) (queueOf d)
+listsOnce d = allBelow (d .waiting) (λ i. allBelow i (λ j. not (eqb (listedAt d i) (listedAt d j))))
 
--- in arrival order just the waiting ones: each that is listed waits, and each that waits is listed
+-- and in arrival order just the waiting ones: each that is listed waits, and each that waits is listed
+abbrev pub isListed : Desk → ℕ → Bool
+isListed d party = anyBelow (d .waiting) (λ i. eqb (listedAt d i) party)
+
 abbrev pub listsWaiting : Desk → Bool
 listsWaiting d =
-    every (λ party. isWaiting (stageAt d party)) (queueOf d)
-    && allBelow 32 (λ party. not (isWaiting (stageAt d party)) || any (eqb party) (queueOf d))
+    allBelow (d .waiting) (λ i. isWaiting (stageAt d (listedAt d i)))
+    && allBelow 32 (λ party. not (isWaiting (stageAt d party)) || isListed d party)
 
 -- the test holds of the lock that a party holds or waits for
 abbrev pub ofLock : (Lock → Bool) → Stage → Bool
@@ -60,7 +63,7 @@ heldUp entries earlier (Waiting l) = meetsHolder entries l || meetsWaiter entrie
 heldUp entries earlier (Holding l) = false
 
 abbrev pub waitersHeldUp : Desk → Bool
-waitersHeldUp d = allBelow (d .waiting) (λ i. heldUp (d .entries) (take i (d .queue)) (stageAt d (getD (d .queue) i 0)))
+waitersHeldUp d = allBelow (d .waiting) (λ i. heldUp (d .entries) (take i (d .queue)) (stageAt d (listedAt d i)))
 
 -- a sound desk
 unfoldable pub soundDesk : Hierarchy → Desk → Bool

@@ -5,7 +5,7 @@ use mathlib.Core.Bool.{Bool, true, false}
 use mathlib.Core.Option.{Option, none, some}
 use Prim.Native.Nat.{ℕ, zero, suc}
 use lib.ListN.{getD, take}
-use Rattle.intervals.specs.Lists.{allBelow, anyBelow, every, any, tails}
+use Rattle.intervals.specs.Lists.{allBelow}
 use Rattle.intervals.specs.Answer.{Answer, done, refused, _when_, refusal}
 use Rattle.intervals.proofs.Bools.{not-both}
 use Rattle.desk.specs.declared.Mode.{Mode}
@@ -67,5 +67,5 @@ refused-leave H d party k list e = by (leaveRefusal H d party list) e
 
 -- A FRESH DESK IS SOUND, over every hierarchy whatever, so over every built one
 pub fresh-sound : (H : Hierarchy) → soundDesk H freshDesk ≡ true
-unfolding soundDesk allBelow anyBelow every any tails
+unfolding soundDesk allBelow
 fresh-sound H = refl
