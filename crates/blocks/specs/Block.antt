@@ -27,6 +27,7 @@ afterRecords stage (suc n) s = afterRecords (afterRecord stage (take 16 s)) n (d
 abbrev pub numberIn : List ℕ → ℕ
 numberIn block = number4 0 block
 
+-- bytes 4 and 5 hold its record count
 abbrev pub countIn : List ℕ → ℕ
 countIn block = number2 4 block
 

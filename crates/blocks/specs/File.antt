@@ -23,13 +23,15 @@ unfoldable pub recordsOf : ℕ → List ℕ → List ℕ
 recordsOf zero s = []
 recordsOf (suc k) s = recordsIn (take 512 s) ++ recordsOf k (drop 512 s)
 
--- the whole blocks of a file, the stage after them, and their records
+-- the whole blocks of a file
 abbrev pub wholeBlocks : List ℕ → ℕ
 wholeBlocks file = length file / 512
 
+-- the stage after them
 abbrev pub fileStage : List ℕ → ℕ
 fileStage file = afterBlocks (wholeBlocks file) 0 0 file
 
+-- their records
 abbrev pub fileRecords : List ℕ → List ℕ
 fileRecords file = recordsOf (wholeBlocks file) file
 
@@ -59,6 +61,7 @@ pub record ReadResult : Type 0 where
   pub answer : Answer ℕ
   pub room : List ℕ
 
+-- reading: the count of records, and their bytes from the room's first byte on
 unfoldable pub readFile : List ℕ → List ℕ → ReadResult
 readFile file room =
     record {
@@ -97,6 +100,7 @@ pub record WriteResult : Type 0 where
   pub answer : Answer ℕ
   pub room : List ℕ
 
+-- writing: the count of blocks, and their bytes from the room's first byte on
 unfoldable pub writeFile : List ℕ → ℕ → List ℕ → WriteResult
 writeFile records n room =
     record {
@@ -104,11 +108,12 @@ writeFile records n room =
       room = roomAfter (writeRefusal records n room) (fileOf records n) room;
     }
 
--- what each case of the answers is in the paper
+-- what each case of reading's answer is in the paper
 abbrev pub readMeaning : ReadAnswer → Answer ℕ
 readMeaning (Records n) = done n
 readMeaning (ReadRefused k) = refused k
 
+-- what each case of writing's answer is in the paper
 abbrev pub writeMeaning : WriteAnswer → Answer ℕ
 writeMeaning (Blocks k) = done k
 writeMeaning (WriteRefused k) = refused k

@@ -6,6 +6,7 @@ use lib.Dec.{eqb, leb}
 use lib.ListN.{take, drop}
 use Rattle.blocks.specs.Bytes.{byte, number2, number8, zeroFrom}
 
+-- byte 0 of a record is its kind
 abbrev pub kindOf : List ℕ → ℕ
 kindOf r = byte 0 r
 
@@ -13,30 +14,35 @@ kindOf r = byte 0 r
 abbrev pub sizeIn : List ℕ → ℕ
 sizeIn r = number2 1 r
 
--- 2 edge: byte 1 parent, byte 2 child
+-- 2 edge: byte 1 parent
 abbrev pub parentIn : List ℕ → ℕ
 parentIn r = byte 1 r
 
+-- 2 edge: byte 2 child
 abbrev pub childIn : List ℕ → ℕ
 childIn r = byte 2 r
 
--- 3 enter: party, mode (1 reading, 2 writing), name count 1 to 8, names in bytes 4 to 11
+-- 3 enter, 4 get, 5 put, 6 leave: byte 1 party
 abbrev pub partyIn : List ℕ → ℕ
 partyIn r = byte 1 r
 
+-- 3 enter: byte 2 mode, 1 reading, 2 writing
 abbrev pub modeIn : List ℕ → ℕ
 modeIn r = byte 2 r
 
+-- 3 enter: byte 3 name count, 1 to 8
 abbrev pub nameCountIn : List ℕ → ℕ
 nameCountIn r = byte 3 r
 
+-- 3 enter: names in bytes 4 to 11
 abbrev pub namesIn : List ℕ → List ℕ
 namesIn r = take (nameCountIn r) (drop 4 r)
 
--- 4 get: party, node. 5 put: party, node, value in bytes 4 to 11. 6 leave: party
+-- 4 get, 5 put: byte 2 the node
 abbrev pub nodeIn : List ℕ → ℕ
 nodeIn r = byte 2 r
 
+-- 5 put: value in bytes 4 to 11
 abbrev pub valueIn : List ℕ → ℕ
 valueIn r = number8 4 r
 

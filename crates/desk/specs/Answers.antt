@@ -13,6 +13,7 @@ use Rattle.desk.specs.declared.LeaveAnswer.{LeaveAnswer}
 use Rattle.desk.specs.declared.LeaveAnswer.the-variants.{Left, Refused as LeaveRefused}
 use Rattle.desk.specs.Steps.{Admission, granted, waits}
 
+-- granted with the cover, waits, or refused
 abbrev pub enterMeaning : EnterAnswer → Answer Admission
 enterMeaning (Granted cover) = done (granted cover)
 enterMeaning Waits = done waits
@@ -24,19 +25,22 @@ getMeaning (Value value) = done value
 getMeaning Waiting = refused 14
 getMeaning (GetRefused k) = refused k
 
+-- stored, or refused
 abbrev pub putMeaning : PutAnswer → Answer (Unit {0})
 putMeaning Stored = done tt
 putMeaning (PutRefused k) = refused k
 
+-- left, with the count of the parties granted, or refused
 abbrev pub leaveMeaning : LeaveAnswer → Answer ℕ
 leaveMeaning (Left grants) = done grants
 leaveMeaning (LeaveRefused k) = refused k
 
--- refusal 14 is answered by the case Waiting, and no other is: two cases of get's answer mean 14, and this one is given
+-- two cases of get's answer mean 14: Waiting is the one given
 abbrev pub getRefusedCase : (waiting : Bool) → ℕ → GetAnswer
 getRefusedCase true k = Waiting
 getRefusedCase false k = GetRefused k
 
+-- the case of get's answer that is given
 abbrev pub getCase : Answer ℕ → GetAnswer
 getCase (done value) = Value value
 getCase (refused k) = getRefusedCase (eqb k 14) k

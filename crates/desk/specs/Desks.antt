@@ -20,13 +20,15 @@ pub record Hierarchy : Type 0 where
   pub edges : List ℕ
   pub edgeCount : ℕ
 
+-- the hierarchy of what a method is given
 abbrev pub lent : ℕ → List ℕ → List ℕ → ℕ → Hierarchy
 lent n intervals edges edgeCount = record { n = n; intervals = intervals; edges = edges; edgeCount = edgeCount }
 
--- low and high of a node
+-- low of a node
 abbrev pub lowIn : Hierarchy → ℕ → ℕ
 lowIn H node = lowAt (H .intervals) node
 
+-- high of a node
 abbrev pub highIn : Hierarchy → ℕ → ℕ
 highIn H node = highAt (H .intervals) node
 
@@ -38,18 +40,21 @@ coverIn H names = coverOf (H .intervals) (edgesOf (H .edges) (H .edgeCount)) nam
 abbrev pub entryOf : Stage → Entry
 entryOf stage = record { stage = stage }
 
--- the stage of a party; parties are 0 to 31
+-- the stage of a party in the entries; parties are 0 to 31
 abbrev pub stageIn : List Entry → ℕ → Stage
 stageIn entries party = (getD entries party (entryOf Out)) .stage
 
+-- the stage of a party at the desk
 abbrev pub stageAt : Desk → ℕ → Stage
 stageAt d party = stageIn (d .entries) party
 
+-- the party is out
 abbrev pub isOut : Stage → Bool
 isOut Out = true
 isOut (Waiting l) = false
 isOut (Holding l) = false
 
+-- the party is waiting
 abbrev pub isWaiting : Stage → Bool
 isWaiting Out = false
 isWaiting (Waiting l) = true
@@ -83,9 +88,10 @@ againstWaiter l Out = false
 againstWaiter l (Waiting w) = conflict w l
 againstWaiter l (Holding h) = false
 
--- with a holder; with a waiter among the parties
+-- with a holder
 abbrev pub meetsHolder : List Entry → Lock → Bool
 meetsHolder entries l = anyBelow 32 (λ party. againstHolder l (stageIn entries party))
 
+-- with a waiter among the parties
 abbrev pub meetsWaiter : List Entry → List ℕ → Lock → Bool
 meetsWaiter entries parties l = any (λ party. againstWaiter l (stageIn entries party)) parties

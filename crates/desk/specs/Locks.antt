@@ -26,13 +26,15 @@ conflict a b = share a b && not (bothReading (a .mode) (b .mode))
 abbrev pub realInterval : ℕ → ℕ → Bool
 realInterval low high = leb 1 low && leb low high && leb high 256
 
--- THE CONFLICT CALL of the office's C host, on numbers: mode (1 reading, 2 writing), low and high of each hold
+-- THE CONFLICT CALL of the office's C host, on numbers. A mode is 1, reading, or 2, writing
 abbrev pub isMode : ℕ → Bool
 isMode m = eqb m 1 || eqb m 2
 
+-- the mode of a number
 abbrev pub modeNumbered : ℕ → Mode
 modeNumbered m = cond (eqb m 1) Reading Writing
 
+-- the hold of mode, low and high; its cover plays no part
 abbrev pub lockNumbered : ℕ → ℕ → ℕ → Lock
 lockNumbered m low high = record { mode = modeNumbered m; cover = 0; low = low; high = high }
 

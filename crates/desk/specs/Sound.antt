@@ -21,10 +21,11 @@ listsParties d = leb (d .waiting) 32 && allBelow (d .waiting) (λ i. ltb (listed
 abbrev pub listsOnce : Desk → Bool
 listsOnce d = allBelow (d .waiting) (λ i. allBelow i (λ j. not (eqb (listedAt d i) (listedAt d j))))
 
--- and in arrival order just the waiting ones: each that is listed waits, and each that waits is listed
+-- the arrival list has the party
 abbrev pub isListed : Desk → ℕ → Bool
 isListed d party = anyBelow (d .waiting) (λ i. eqb (listedAt d i) party)
 
+-- and in arrival order just the waiting ones: each that is listed waits, and each that waits is listed
 abbrev pub listsWaiting : Desk → Bool
 listsWaiting d =
     allBelow (d .waiting) (λ i. isWaiting (stageAt d (listedAt d i)))
@@ -40,28 +41,31 @@ ofLock p (Holding l) = p l
 abbrev pub intervalsReal : Desk → Bool
 intervalsReal d = allBelow 32 (λ party. ofLock (λ l. realInterval (l .low) (l .high)) (stageAt d party))
 
--- a cover is below n and has the hold's interval
+-- a cover is below n and has the hold's interval, of one hold
 abbrev pub coverRight : Hierarchy → Lock → Bool
 coverRight H l = ltb (l .cover) (H .n) && eqb (lowIn H (l .cover)) (l .low) && eqb (highIn H (l .cover)) (l .high)
 
+-- a cover is below n and has the hold's interval, of all
 abbrev pub coversRight : Hierarchy → Desk → Bool
 coversRight H d = allBelow 32 (λ party. ofLock (coverRight H) (stageAt d party))
 
--- no two holders conflict
+-- two parties hold, and their holds conflict
 abbrev pub holdersConflict : Stage → Stage → Bool
 holdersConflict Out s = false
 holdersConflict (Waiting l) s = false
 holdersConflict (Holding l) s = againstHolder l s
 
+-- no two holders conflict
 abbrev pub holdersApart : Desk → Bool
 holdersApart d = allBelow 32 (λ party. allBelow party (λ other. not (holdersConflict (stageAt d party) (stageAt d other))))
 
--- each waiter conflicts with a holder or an earlier waiter
+-- a waiter conflicts with a holder or a waiter among the earlier ones
 abbrev pub heldUp : List Entry → List ℕ → Stage → Bool
 heldUp entries earlier Out = false
 heldUp entries earlier (Waiting l) = meetsHolder entries l || meetsWaiter entries earlier l
 heldUp entries earlier (Holding l) = false
 
+-- each waiter conflicts with a holder or an earlier waiter
 abbrev pub waitersHeldUp : Desk → Bool
 waitersHeldUp d = allBelow (d .waiting) (λ i. heldUp (d .entries) (take i (d .queue)) (stageAt d (listedAt d i)))
 

@@ -25,11 +25,12 @@ use Rattle.desk.specs.Sound.{soundDesk}
 abbrev pub tablesShort : Hierarchy → Bool
 tablesShort H = ltb (length (H .intervals)) (2 * H .n) || ltb (length (H .edges)) (2 * H .edgeCount)
 
--- 10: interval not within 1 to 256, low above high or not inside node 0's
+-- 10: a node's interval not within 1 to 256, low above high or not inside node 0's
 abbrev pub intervalWrong : Hierarchy → ℕ → Bool
 intervalWrong H node =
     not (realInterval (lowIn H node) (highIn H node)) || ltb (lowIn H node) (lowIn H 0) || ltb (highIn H 0) (highIn H node)
 
+-- what every step looks at; `short` says that what is lent to this step alone is too short, and `own` is what it alone looks at
 abbrev pub stepChecks : Hierarchy → Desk → ℕ → (short : Bool) → List Check → List Check
 stepChecks H d party short own =
     1 when (tablesShort H || short)
@@ -86,10 +87,12 @@ queueLast d party l =
 abbrev pub free : Desk → Lock → Bool
 free d l = not (anyBelow 32 (λ other. againstHolder l (stageAt d other) || againstWaiter l (stageAt d other)))
 
+-- granted where the lock is free
 abbrev pub enterIf : Bool → Desk → ℕ → Lock → EnterResult
 enterIf true d party l = record { desk = grantTo d party l; answer = done (granted (l .cover)) }
 enterIf false d party l = record { desk = queueLast d party l; answer = done waits }
 
+-- a refusal changes nothing
 abbrev pub enterUnless : Option ℕ → Desk → ℕ → Lock → EnterResult
 enterUnless (some k) d party l = record { desk = d; answer = refused k }
 enterUnless none d party l = enterIf (free d l) d party l
@@ -101,10 +104,11 @@ enterStep H d party mode names nameCount =
 
 -- GET
 
--- 16: the node's interval is not inside the hold's
+-- the node's interval lies inside the hold's
 abbrev pub insideLock : Hierarchy → ℕ → Lock → Bool
 insideLock H node l = leb (l .low) (lowIn H node) && leb (highIn H node) (l .high)
 
+-- 16: it does not, or the party holds nothing
 abbrev pub insideHold : Hierarchy → ℕ → Stage → Bool
 insideHold H node Out = false
 insideHold H node (Waiting l) = false
@@ -124,6 +128,7 @@ pub record GetResult : Type 0 where
   pub desk : Desk
   pub answer : Answer ℕ
 
+-- get changes no desk
 abbrev pub getUnless : Option ℕ → Desk → ℕ → GetResult
 getUnless (some k) d value = record { desk = d; answer = refused k }
 getUnless none d value = record { desk = d; answer = done value }
@@ -134,11 +139,12 @@ getStep H d party node values = getUnless (refusal (valueChecks H d party node v
 
 -- PUT
 
--- 17: put in a reading visit
+-- the mode is reading
 abbrev pub isReading : Mode → Bool
 isReading Reading = true
 isReading Writing = false
 
+-- 17: put in a reading visit
 abbrev pub readsOnly : Stage → Bool
 readsOnly Out = false
 readsOnly (Waiting l) = false
@@ -149,6 +155,7 @@ pub record PutResult : Type 0 where
   pub values : List ℕ
   pub answer : Answer (Unit {0})
 
+-- a refusal changes nothing
 abbrev pub putUnless : Option ℕ → Desk → ℕ → ℕ → List ℕ → PutResult
 putUnless (some k) d node value values = record { desk = d; values = values; answer = refused k }
 putUnless none d node value values = record { desk = d; values = set values node value; answer = done tt }
@@ -166,13 +173,16 @@ pub record Sweep : Type 0 where
   pub stay : List ℕ
   pub granted : List ℕ
 
+-- a waiter stays waiting
 abbrev pub staysWaiting : Sweep → ℕ → Sweep
 staysWaiting s party = record { entries = s .entries; stay = s .stay ++ (party ∷ []); granted = s .granted }
 
+-- a waiter is granted what it waits for
 abbrev pub isGranted : Sweep → ℕ → Lock → Sweep
 isGranted s party l =
     record { entries = set (s .entries) party (entryOf (Holding l)); stay = s .stay; granted = s .granted ++ (party ∷ []) }
 
+-- the one or the other
 abbrev pub offerIf : Bool → Sweep → ℕ → Lock → Sweep
 offerIf true s party l = isGranted s party l
 offerIf false s party l = staysWaiting s party
@@ -183,6 +193,7 @@ offerTo s party Out = staysWaiting s party
 offerTo s party (Waiting l) = offerIf (not (meetsHolder (s .entries) l || meetsWaiter (s .entries) (s .stay) l)) s party l
 offerTo s party (Holding l) = staysWaiting s party
 
+-- one waiter is taken
 unfoldable pub offer : Sweep → ℕ → Sweep
 offer s party = offerTo s party (stageIn (s .entries) party)
 
@@ -210,6 +221,7 @@ leaveWith s d list =
       answer = done (length (s .granted));
     }
 
+-- a refusal changes nothing
 abbrev pub leaveUnless : Option ℕ → Desk → ℕ → List ℕ → LeaveResult
 leaveUnless (some k) d party list = record { desk = d; list = list; answer = refused k }
 leaveUnless none d party list = leaveWith (afterLeaving d party) d list
@@ -218,5 +230,6 @@ leaveUnless none d party list = leaveWith (afterLeaving d party) d list
 abbrev pub leaveRefusal : Hierarchy → Desk → ℕ → List ℕ → Option ℕ
 leaveRefusal H d party list = refusal (stepChecks H d party (ltb (length list) 32) (13 when isOut (stageAt d party) ∷ []))
 
+-- a holder gives up its hold, a waiter its call; waiters are then taken once in arrival order
 unfoldable pub leaveStep : Hierarchy → Desk → ℕ → List ℕ → LeaveResult
 leaveStep H d party list = leaveUnless (leaveRefusal H d party list) d party list

@@ -17,25 +17,31 @@ shared = 0 ∷ 1 ∷ 0 ∷ 2 ∷ 0 ∷ 3 ∷ 0 ∷ 4 ∷ 4 ∷ 1 ∷ 4 ∷ 3 ∷
 abbrev pub bytes16 : List ℕ → List ℕ
 bytes16 bytes = take 16 (bytes ++ replicate 16 0)
 
--- kind 1: size; 2: edge; 3: enter, by party, mode and names; 4: get; 5: put; 6: leave
+-- kind 1, size
 abbrev pub size : ℕ → List ℕ
 size n = bytes16 (1 ∷ n ∷ [])
 
+-- kind 2, edge
 abbrev pub edge : ℕ → ℕ → List ℕ
 edge parent child = bytes16 (2 ∷ parent ∷ child ∷ [])
 
+-- kind 3, enter, with one name
 abbrev pub enter1 : ℕ → ℕ → ℕ → List ℕ
 enter1 party mode name = bytes16 (3 ∷ party ∷ mode ∷ 1 ∷ name ∷ [])
 
+-- kind 3, enter, with two names
 abbrev pub enter2 : ℕ → ℕ → ℕ → ℕ → List ℕ
 enter2 party mode name name′ = bytes16 (3 ∷ party ∷ mode ∷ 2 ∷ name ∷ name′ ∷ [])
 
+-- kind 4, get
 abbrev pub get : ℕ → ℕ → List ℕ
 get party node = bytes16 (4 ∷ party ∷ node ∷ [])
 
+-- kind 5, put, of a number below 256
 abbrev pub put : ℕ → ℕ → ℕ → List ℕ
 put party node number = bytes16 (5 ∷ party ∷ node ∷ 0 ∷ number ∷ [])
 
+-- kind 6, leave
 abbrev pub leave : ℕ → List ℕ
 leave party = bytes16 (6 ∷ party ∷ [])
 
@@ -60,6 +66,7 @@ fileT =
 unfoldable pub fileShared : List (List ℕ)
 fileShared = size 5 ∷ edge 0 1 ∷ edge 0 2 ∷ edge 0 3 ∷ edge 0 4 ∷ edge 4 1 ∷ edge 4 3 ∷ enter1 1 2 4 ∷ enter1 2 2 2 ∷ []
 
+-- the starred cases, in the paper's order
 unfoldable pub starred : List Case
 starred =
     -- intervals 0 to 9 of T

@@ -16,6 +16,7 @@ pub record Lending : Type 0 where
   pub places : ℕ
   pub behind : List ℕ
 
+-- the table as it is lent
 unfoldable pub lend : List ℕ → Lending → List ℕ
 lend table l = take (l .places) (table ++ l .behind)
 
@@ -59,24 +60,30 @@ pub record Moved : Type 0 where
   pub state : State
   pub event : Event ℕ
 
+-- after an enter
 unfoldable pub afterEnter : ℕ → State → EnterResult → Moved
 afterEnter party s r = record { state = record { desk = r .desk; values = s .values }; event = entered party (r .answer) }
 
+-- after a get
 unfoldable pub afterGet : ℕ → ℕ → State → GetResult → Moved
 afterGet party node s r = record { state = record { desk = r .desk; values = s .values }; event = got party node (r .answer) }
 
+-- after a put: the values are what the step left in what it was lent
 unfoldable pub afterPut : ℕ → ℕ → ℕ → State → PutResult → Moved
 afterPut party node value s r =
     record { state = record { desk = r .desk; values = restored (s .values) (r .values) }; event = stored party node value (r .answer) }
 
+-- the list that a leave writes is part of its answer
 unfoldable pub listed : List ℕ → Answer ℕ → Answer (List ℕ)
 listed bytes (done k) = done (take k bytes)
 listed bytes (refused k) = refused k
 
+-- after a leave
 unfoldable pub afterLeave : ℕ → State → LeaveResult → Moved
 afterLeave party s r =
     record { state = record { desk = r .desk; values = s .values }; event = left party (listed (r .list) (r .answer)) }
 
+-- the step on the hierarchy as lent
 unfoldable pub moveCall : Hierarchy → Call → State → Moved
 moveCall H (enter party mode names nameCount) s = afterEnter party s (enterStep H (s .desk) party mode names nameCount)
 moveCall H (get party node l) s = afterGet party node s (getStep H (s .desk) party node (lend (s .values) l))
@@ -92,9 +99,11 @@ pub record Ran : Type 0 where
   pub state : State
   pub events : List (Event ℕ)
 
+-- one step, and then the rest
 unfoldable pub alsoRan : Moved → Ran → Ran
 alsoRan m r = record { state = r .state; events = m .event ∷ r .events }
 
+-- the steps one after the other
 unfoldable pub run : Hierarchy → List Step → State → Ran
 run H [] s = record { state = s; events = [] }
 run H (x ∷ xs) s = alsoRan (move H x s) (run H xs ((move H x s) .state))

@@ -38,6 +38,7 @@ abbrev pub scratchAfter : (short : Bool) → List ℕ → List ℕ
 scratchAfter true scratch = scratch
 scratchAfter false scratch = over (replicate 2048 0) scratch
 
+-- building: its answer, the interval places and the scratch after it
 unfoldable pub buildStep : ℕ → List ℕ → ℕ → List ℕ → List ℕ → BuildResult
 buildStep n edges edgeCount places scratch =
     record {

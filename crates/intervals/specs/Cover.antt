@@ -9,13 +9,15 @@ use Rattle.intervals.specs.Lists.{least, greatest}
 use Rattle.intervals.specs.Hierarchy.{children}
 use Rattle.intervals.specs.declared.Interval.{Interval}
 
--- low and high of a node, in a table that has them in turn for each node
+-- low of a node, in a table that has low and high in turn for each node
 abbrev pub lowAt : List ℕ → ℕ → ℕ
 lowAt table node = getD table (2 * node) 0
 
+-- high of a node
 abbrev pub highAt : List ℕ → ℕ → ℕ
 highAt table node = getD table (2 * node + 1) 0
 
+-- its interval
 abbrev pub intervalAt : List ℕ → ℕ → Interval
 intervalAt table node = record { low = lowAt table node; high = highAt table node }
 
@@ -31,11 +33,12 @@ contains a b = leb (a .low) (b .low) && leb (b .high) (a .high)
 abbrev pub width : Interval → ℕ
 width a = a .high - a .low
 
--- the first of the children whose interval contains the call's and is narrower than the present node's
+-- the child where the test holds, or a later one
 abbrev pub orElse : Bool → ℕ → Option ℕ → Option ℕ
 orElse true child later = some child
 orElse false child later = later
 
+-- the first of the children whose interval contains the call's and is narrower than the present node's
 unfoldable pub firstWithin : List ℕ → Interval → ℕ → List ℕ → Option ℕ
 firstWithin table call present [] = none
 firstWithin table call present (child ∷ cs) =
@@ -47,6 +50,7 @@ abbrev pub stepOr : (ℕ → ℕ) → ℕ → Option ℕ → ℕ
 stepOr onward present none = present
 stepOr onward present (some child) = onward child
 
+-- the search from a node, of at most k steps
 unfoldable pub searchFrom : ℕ → List ℕ → List ℕ → Interval → ℕ → ℕ
 searchFrom zero table es call present = present
 searchFrom (suc k) table es call present =

@@ -67,10 +67,11 @@ edgesTooMany edgeCount = ltb 1024 edgeCount
 abbrev pub edgeWrong : ℕ → ℕ → ℕ → Bool
 edgeWrong n parent child = not (ltb parent n) || not (ltb child n) || eqb child 0 || eqb parent child
 
--- 8: edge twice
+-- the two edges are the same
 abbrev pub sameEdge : ℕ → ℕ → ℕ → ℕ → Bool
 sameEdge parent child p c = eqb parent p && eqb child c
 
+-- 8: edge twice
 unfoldable pub edgeTwice : List ℕ → Bool
 edgeTwice [] = false
 edgeTwice (parent ∷ []) = false

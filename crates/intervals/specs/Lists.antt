@@ -59,11 +59,12 @@ unfoldable pub foldFrom : (ℕ → ℕ → ℕ) → ℕ → List ℕ → ℕ
 foldFrom f x [] = x
 foldFrom f x (y ∷ ys) = foldFrom f (f x y) ys
 
--- the least of a list, and the greatest (0 where the list is empty)
+-- the least of a list (0 where it is empty)
 unfoldable pub least : List ℕ → ℕ
 least [] = 0
 least (x ∷ xs) = foldFrom min x xs
 
+-- the greatest of a list (0 where it is empty)
 unfoldable pub greatest : List ℕ → ℕ
 greatest [] = 0
 greatest (x ∷ xs) = foldFrom max x xs

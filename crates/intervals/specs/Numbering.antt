@@ -12,6 +12,7 @@ pub record Walk : Type 0 where
   pub marks : List ℕ
   pub numbers : List ℕ
 
+-- the walk that stands there
 abbrev pub at : ℕ → List ℕ → List ℕ → Walk
 at next marks numbers = record { next = next; marks = marks; numbers = numbers }
 

@@ -25,6 +25,7 @@ unfoldable pub eachRecord : ℕ → List ℕ → List (List ℕ)
 eachRecord zero bytes = []
 eachRecord (suc k) bytes = take 16 bytes ∷ eachRecord k (drop 16 bytes)
 
+-- all of them
 abbrev pub recordList : List ℕ → List (List ℕ)
 recordList bytes = eachRecord (length bytes / 16) bytes
 
@@ -33,6 +34,7 @@ abbrev pub sizeOf : List (List ℕ) → ℕ
 sizeOf [] = 0
 sizeOf (r ∷ rs) = sizeIn r
 
+-- the edge before the others, or not
 abbrev pub edgeIf : Bool → ℕ → ℕ → List ℕ → List ℕ
 edgeIf true parent child es = parent ∷ child ∷ es
 edgeIf false parent child es = es
@@ -42,6 +44,7 @@ unfoldable pub edgeTable : List (List ℕ) → List ℕ
 edgeTable [] = []
 edgeTable (r ∷ rs) = edgeIf (eqb (kindOf r) 2) (parentIn r) (childIn r) (edgeTable rs)
 
+-- the edge count, given beside it
 abbrev pub edgeCountOf : List (List ℕ) → ℕ
 edgeCountOf rs = count (λ r. eqb (kindOf r) 2) rs
 
@@ -62,15 +65,18 @@ pub data StepAnswer : Type 0 where
   left : (parties : List ℕ) → StepAnswer
   refused : (number : ℕ) → StepAnswer
 
+-- of enter
 abbrev pub enterLine : Answer Admission → StepAnswer
 enterLine (done (admitted cover)) = granted cover
 enterLine (done queued) = waits
 enterLine (denied k) = refused k
 
+-- of get
 abbrev pub getLine : Answer ℕ → StepAnswer
 getLine (done x) = value x
 getLine (denied k) = refused k
 
+-- of put
 abbrev pub putLine : Answer (Unit {0}) → StepAnswer
 putLine (done _) = stored
 putLine (denied k) = refused k
@@ -90,15 +96,19 @@ pub record Performed : Type 0 where
   pub state : State
   pub answer : StepAnswer
 
+-- after an enter
 abbrev pub afterEnter : State → EnterResult → Performed
 afterEnter s r = record { state = record { desk = r .desk; values = s .values }; answer = enterLine (r .answer) }
 
+-- after a get
 abbrev pub afterGet : State → GetResult → Performed
 afterGet s r = record { state = record { desk = r .desk; values = s .values }; answer = getLine (r .answer) }
 
+-- after a put
 abbrev pub afterPut : PutResult → Performed
 afterPut r = record { state = record { desk = r .desk; values = r .values }; answer = putLine (r .answer) }
 
+-- after a leave
 abbrev pub afterLeave : State → LeaveResult → Performed
 afterLeave s r = record { state = record { desk = r .desk; values = s .values }; answer = leaveLine (r .list) (r .answer) }
 
@@ -121,9 +131,11 @@ pub record Ran : Type 0 where
   pub state : State
   pub answers : List StepAnswer
 
+-- one step, and then the rest
 unfoldable pub also : Performed → Ran → Ran
 also p r = record { state = r .state; answers = p .answer ∷ r .answers }
 
+-- the steps one after the other
 unfoldable pub performAll : Hierarchy → State → List (List ℕ) → Ran
 performAll H s [] = record { state = s; answers = [] }
 performAll H s (r ∷ rs) = also (perform H s r) (performAll H ((perform H s r) .state) rs)
@@ -132,12 +144,13 @@ performAll H s (r ∷ rs) = also (perform H s r) (performAll H ((perform H s r) 
 abbrev pub startOf : ℕ → State
 startOf n = record { desk = freshDesk; values = replicate n 0 }
 
--- the last line has holders, waiters and grants
+-- the party is holding
 abbrev pub isHolding : Stage → Bool
 isHolding Out = false
 isHolding (Waiting l) = false
 isHolding (Holding l) = true
 
+-- the count of holders
 abbrev pub holdersAt : Desk → ℕ
 holdersAt d = count (λ e. isHolding (e .stage)) (d .entries)
 
@@ -149,19 +162,21 @@ pub record FileRun : Type 0 where
   pub grants : ℕ
   pub values : List ℕ
 
+-- what a run comes to
 abbrev pub fileRun : Ran → FileRun
 fileRun ran =
     record { answers = ran .answers; holders = holdersAt (ran .state .desk); waiters = ran .state .desk .waiting; grants = ran .state .desk .grants; values = ran .state .values }
 
--- the hierarchy may be refused with 5 to 9
+-- a refused hierarchy gives its number: 5 to 9
 abbrev pub runUnless : Option ℕ → List (List ℕ) → Answer FileRun
 runUnless (some k) rs = denied k
 runUnless none rs = done (fileRun (performAll (builtOf rs) (startOf (sizeOf rs)) (stepRecords rs)))
 
+-- what running the records of a file answers
 unfoldable pub runRecords : List (List ℕ) → Answer FileRun
 runRecords rs = runUnless (refusal (hierarchyChecks (sizeOf rs) (edgeTable rs) (edgeCountOf rs))) rs
 
--- and the file, before it, with 2 to 4
+-- a refused file gives its number, before: 2 to 4
 abbrev pub fileUnless : Option ℕ → List ℕ → Answer FileRun
 fileUnless (some k) file = denied k
 fileUnless none file = runRecords (recordList (fileRecords file))
