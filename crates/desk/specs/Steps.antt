@@ -108,7 +108,7 @@ enterStep H d party mode names nameCount =
 abbrev pub insideLock : Hierarchy → ℕ → Lock → Bool
 insideLock H node l = leb (l .low) (lowIn H node) && leb (highIn H node) (l .high)
 
--- 16: it does not, or the party holds nothing
+-- 16 is given where this is false: of what the party holds
 abbrev pub insideHold : Hierarchy → ℕ → Stage → Bool
 insideHold H node Out = false
 insideHold H node (Waiting l) = false
