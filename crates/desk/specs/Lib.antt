@@ -3,3 +3,4 @@ pub mod Desks
 pub mod Sound
 pub mod Steps
 pub mod Answers
+pub mod Inner

@@ -11,8 +11,7 @@ use Rattle.desk.specs.declared.Lock.{Lock}
 abbrev pub bothReading : Mode → Mode → Bool
 bothReading Reading Reading = true
 bothReading Reading Writing = false
-bothReading Writing Reading = false
-bothReading Writing Writing = false
+bothReading Writing b = false
 
 -- the intervals share a number
 abbrev pub share : Lock → Lock → Bool

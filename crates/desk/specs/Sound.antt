@@ -37,9 +37,13 @@ ofLock p Out = true
 ofLock p (Waiting l) = p l
 ofLock p (Holding l) = p l
 
+-- its intervals lie in 1 to 256, low at most high: of one lock
+abbrev pub lockReal : Lock → Bool
+lockReal l = realInterval (l .low) (l .high)
+
 -- its intervals lie in 1 to 256, low at most high
 abbrev pub intervalsReal : Desk → Bool
-intervalsReal d = allBelow 32 (λ party. ofLock (λ l. realInterval (l .low) (l .high)) (stageAt d party))
+intervalsReal d = allBelow 32 (λ party. ofLock lockReal (stageAt d party))
 
 -- a cover is below n and has the hold's interval, of one hold
 abbrev pub coverRight : Hierarchy → Lock → Bool

@@ -1,12 +1,15 @@
 -- Tests at every number below a bound, and at some: the turns of a loop that counts up, and what the whole says of each. Assumes nothing.
 use mathlib.Core.Path.{_≡_, refl, sym, ap, _∙_}
-use mathlib.Core.Bool.{Bool, true, false, _&&_, _||_, and-false, or-true}
+use mathlib.Core.List.{List, [], _∷_, _++_}
+use mathlib.Core.Bool.{Bool, true, false, _&&_, _||_, and-false, or-true, or-false, or-assoc}
 use Prim.Native.Nat.{ℕ, zero, suc, _+_, _≤_, _<_}
 use native.Mathlib.Numerals.{add-one}
 use native.Mathlib.Omega.{arith}
 use lib.Dec.{eqb}
+use lib.ListN.{length, getD, take}
+use lib.Seq.{take-suc}
 use borrow.Author.Tests.{eqb-true, eqb-false}
-use Rattle.intervals.specs.Lists.{allBelow, anyBelow}
+use Rattle.intervals.specs.Lists.{allBelow, anyBelow, any}
 use Rattle.intervals.proofs.Bools.{bool, and-left, and-right, and-both, or-left, or-right, or-neither}
 
 -- below n + 1 is n, or below n
@@ -68,3 +71,22 @@ module _ (p : ℕ → Bool) where
   unfolding anyBelow
   none-of zero f = refl
   none-of (suc n) f = or-neither (anyBelow n p) (p n) (none-of n (λ i l. f i (omega arith))) (f n (omega arith))
+
+  -- the loop's end: what is counted is all
+  pub all-end : (n i : ℕ) → allBelow i p ≡ true → i ≤ n → n ≤ i → true ≡ allBelow n p
+  all-end n i a h g = sym (ap (λ (k : ℕ). allBelow k p) (let e : n ≡ i = omega arith in e) ∙ a)
+
+  pub any-end : (n i : ℕ) → anyBelow i p ≡ false → i ≤ n → n ≤ i → false ≡ anyBelow n p
+  any-end n i a h g = sym (ap (λ (k : ℕ). anyBelow k p) (let e : n ≡ i = omega arith in e) ∙ a)
+
+-- a test at some of the first k elements, by their places
+any-snoc : {A : Type 0} (f : A → Bool) (xs : List A) (x : A) → any f (xs ++ (x ∷ [])) ≡ any f xs || f x
+unfolding any
+any-snoc f [] x = or-false (f x)
+any-snoc f (y ∷ ys) x = ap (f y ||_) (any-snoc f ys x) ∙ sym (or-assoc (f y) (any f ys) (f x))
+
+pub any-take : {A : Type 0} (f : A → Bool) (l : List A) (d : A) (k : ℕ) → k ≤ length l → any f (take k l) ≡ anyBelow k (λ i. f (getD l i d))
+unfolding anyBelow any
+any-take f l d zero h = refl
+any-take f l d (suc k) h =
+    ap (any f) (take-suc l k d (omega arith)) ∙ any-snoc f (take k l) (getD l k d) ∙ ap (_|| f (getD l k d)) (any-take f l d k (omega arith))

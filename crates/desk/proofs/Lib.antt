@@ -1,0 +1,4 @@
+-- What the proofs of several functions use.
+pub mod Stages
+pub mod Queues
+pub mod Sweeps
