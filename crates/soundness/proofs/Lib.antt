@@ -1,2 +1,3 @@
 -- What holds of every step: Laws has the theorems.
 pub mod Laws
+pub mod Orderly
