@@ -31,6 +31,12 @@ unfolding any
 any-in p head e = rw e
 any-in p (tail {d = y} i) e = rw (any-in p i e) (or-true (p y))
 
+-- two tests that agree at each member
+pub any-alike : (p q : ℕ → Bool) (xs : List ℕ) → ((x : ℕ) → In x xs → p x ≡ q x) → any p xs ≡ any q xs
+unfolding any
+any-alike p q [] f = refl
+any-alike p q (x ∷ xs) f = rw (f x head, any-alike p q xs (λ y i. f y (tail i)))
+
 -- PLACES. What stands at a place is a member, and each member stands at one
 pub place-in : (xs : List ℕ) (i : ℕ) → i < length xs → In (getD xs i 0) xs
 place-in [] i h = absurd (omega arith)

@@ -1,3 +1,4 @@
 -- What holds of every step: Laws has the theorems.
 pub mod Laws
 pub mod Orderly
+pub mod Changes
