@@ -79,7 +79,7 @@ changed H es p x list new o b c real right alone = record {
     free q r g h ne (inr a) (inr b) = o .apart q r g h ne a b
 
 -- a party on the list is another than one that does not wait
-waits-apart : {H : Hierarchy} {es : List Entry} {list : List ℕ} → Orderly H es list → (p q : ℕ) → isWaiting (stageIn es p) ≡ false → In q list → q ≢ p
+pub waits-apart : {H : Hierarchy} {es : List Entry} {list : List ℕ} → Orderly H es list → (p q : ℕ) → isWaiting (stageIn es p) ≡ false → In q list → q ≢ p
 waits-apart {es = es} o p q n m e = not-both (isWaiting (stageIn es p)) (ap (λ (k : ℕ). isWaiting (stageIn es k)) (sym e) ∙ o .waits q m) n
 
 -- a call made: a party that is out waits, last on the list
@@ -116,6 +116,27 @@ ended H es list p o b =
     refl refl
     (λ q g h e k. not-both true refl cc)
 
+-- no holder conflicts with a lock that meets none
+no-holder : (es : List Entry) (l : Lock) → length es ≡ 32 → meetsHolder es l ≡ false → (q : ℕ) (g h : Lock) → Holding l ≡ Holding g → stageIn es q ≡ Holding h
+    → conflict h g ≡ false
+no-holder es l long free q g h e k =
+    let c : l ≡ g = cc in
+    rw (← c) (rw k at (any-none (λ party. againstHolder l (stageIn es party)) 32 q free (omega (arith, holder-below es q h k))))
+
+-- a call granted at once: a party that is out holds
+pub admitted : (H : Hierarchy) (es : List Entry) (list : List ℕ) (p : ℕ) (l : Lock) → Orderly H es list → p < 32 → stageIn es p ≡ Out
+    → realInterval (l .low) (l .high) ≡ true → coverRight H l ≡ true → meetsHolder es l ≡ false → Orderly H (set es p (entryOf (Holding l))) list
+admitted H es list p l o b out real right free =
+    changed H es p (Holding l) list list o b
+    (record {
+      once = o .once;
+      there = λ q ne m. m;
+      back = λ q ne m. m;
+      on = λ w. absurd (true≢false (sym w));
+      off = λ w m. waits-apart o p p (ap isWaiting out) m refl;
+    })
+    real right (no-holder es l (o .long) free)
+
 -- a waiter granted: it holds, and is off the list
 pub granted : (H : Hierarchy) (es : List Entry) (stay after : List ℕ) (p : ℕ) (l : Lock) → Orderly H es (stay ++ (p ∷ after)) → stageIn es p ≡ Waiting l
     → meetsHolder es l ≡ false → Orderly H (set es p (entryOf (Holding l))) (stay ++ after)
@@ -130,7 +151,7 @@ granted H es stay after p l o w free =
     })
     (rw w at (o .real p (o .parties p (in-between p stay after))))
     (rw w at (o .covers p (o .parties p (in-between p stay after))))
-    (λ q g h e k. let c : l ≡ g = cc in rw (← c) (rw k at (any-none (λ party. againstHolder l (stageIn es party)) 32 q free (omega (arith, holder-below es q h k, o .long)))))
+    (no-holder es l (o .long) free)
   where
     rest : (q : ℕ) → q ≢ p → (p ≡ q) ⊎ In q (stay ++ after) → In q (stay ++ after)
     rest q ne (inl e) = absurd (ne (sym e))
@@ -142,7 +163,7 @@ still-against l Out y f t = absurd (true≢false (sym t))
 still-against l (Waiting g) y f t = absurd (true≢false (sym t))
 still-against l (Holding g) y f t = rw (f g refl) t
 
-still-meets : (es fs : List Entry) (l : Lock) → ((p : ℕ) (g : Lock) → stageIn es p ≡ Holding g → stageIn fs p ≡ Holding g) → meetsHolder es l ≡ true → meetsHolder fs l ≡ true
+pub still-meets : (es fs : List Entry) (l : Lock) → ((p : ℕ) (g : Lock) → stageIn es p ≡ Holding g → stageIn fs p ≡ Holding g) → meetsHolder es l ≡ true → meetsHolder fs l ≡ true
 still-meets es fs l more t =
     let (p, h, e) = any-some (λ party. againstHolder l (stageIn es party)) 32 t in
     any-stop (λ party. againstHolder l (stageIn fs party)) 32 p h (still-against l (stageIn es p) (stageIn fs p) (more p) e)

@@ -2,3 +2,4 @@
 pub mod Laws
 pub mod Orderly
 pub mod Changes
+pub mod Kept

@@ -13,7 +13,7 @@ use Rattle.intervals.specs.Lists.{allBelow, anyBelow}
 use Rattle.intervals.proofs.Bools.{bool, and-left, and-right, and-both}
 use Rattle.intervals.proofs.Bounded.{all-at, all-of, any-stop}
 use Rattle.intervals.proofs.Members.{In}
-use Rattle.intervals.proofs.Distinct.{any-some, place-in, in-place, Distinct, distinct-at, distinct-of}
+use Rattle.intervals.proofs.Distinct.{any-some, place-in, in-place, Distinct, distinct-at, distinct-of, distinct-below}
 use Rattle.desk.specs.declared.Lock.{Lock}
 use Rattle.desk.specs.declared.Stage.{Stage}
 use Rattle.desk.specs.declared.Stage.the-variants.{Out, Waiting, Holding}
@@ -195,3 +195,8 @@ module _ (H : Hierarchy) (d : Desk) (list : List ℕ) (r : Reads d list) where
       free p q h (Holding g) Out ex ey = refl
       free p q h (Holding g) (Waiting k) ex ey = refl
       free p q h (Holding g) (Holding k) ex ey = rw (o .apart p q g k (λ e. omega arith) ex ey)
+
+-- a desk made of a list is sound where its entries and the list are: the list has room, since its parties are different and below 32
+pub made-sound : (H : Hierarchy) (d : Desk) (list : List ℕ) → d .queue ≡ queuePlaces list → d .waiting ≡ length list → Orderly H (d .entries) list
+    → HeldUp (d .entries) list → soundDesk H d ≡ true
+made-sound H d list e w o u = orderly-sound H d list (places-read d list e w (distinct-below 32 list (o .once) (o .parties))) o u
