@@ -3,3 +3,4 @@ pub mod Laws
 pub mod Orderly
 pub mod Changes
 pub mod Kept
+pub mod NeverTen
