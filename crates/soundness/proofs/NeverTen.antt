@@ -93,13 +93,13 @@ built-right H b node h =
     let high : (i : ℕ) → i < H .n → highIn H i ≡ highOf (H .n) es i = λ i k. ap (λ (table : List ℕ). highAt table i) (b .wrote ∙ t .wrote) ∙ built-high (H .n) es i k in
     let real = interval-real (H .n) (H .edges) (H .edgeCount) (t .legal) node h in
     let inside = interval-inside-root (H .n) (H .edges) (H .edgeCount) (t .legal) node h in
-    let some : 0 < H .n = omega arith in
+    let root : 0 < H .n = omega arith in
     rw (
       le-leb 1 (lowIn H node) (omega (arith, low node h, real)),
       le-leb (lowIn H node) (highIn H node) (omega (arith, low node h, high node h, real)),
       le-leb (highIn H node) 256 (omega (arith, high node h, real)),
-      le-ltb (lowIn H node) (lowIn H 0) (omega (arith, low node h, low 0 some, inside)),
-      le-ltb (highIn H 0) (highIn H node) (omega (arith, high node h, high 0 some, inside))
+      le-ltb (lowIn H node) (lowIn H 0) (omega (arith, low node h, low 0 root, inside)),
+      le-ltb (highIn H 0) (highIn H node) (omega (arith, high node h, high 0 root, inside))
     )
 
 -- REFUSALS. The refusal is k
@@ -119,3 +119,145 @@ not-refused k (c ∷ cs) f =
     bool (c .holds)
     (λ e. rw (refused-here c cs e) (sym (and-true (eqb (c .number) k)) ∙ rw e at (f .0)))
     (λ e. rw (refused-later c cs e) (not-refused k cs (f .1)))
+
+-- tables that are too short are refused with 1
+short-first : (K : Hierarchy) (d : Desk) (party : ℕ) (short : Bool) (own : List Check) → tablesShort K ≡ true → refusal (stepChecks K d party short own) ≡ some 1
+short-first K d party short own e = refused-here (1 when (tablesShort K || short)) _ (ap (λ (b : Bool). b || short) e)
+
+-- what a refused step leaves, and the number that its answer has
+module _ (d : Desk) (party : ℕ) where
+  enter-same : (l : Lock) (k : ℕ) (o : Option ℕ) → o ≡ some k → (enterUnless o d party l) .desk ≡ d
+  enter-same l k (some j) e = refl
+  enter-same l k none e = not-both true refl cc
+
+  enter-number : (l : Lock) (k : ℕ) (o : Option ℕ) → isRefusal k ((enterUnless o d party l) .answer) ≡ isNumber k o
+  enter-number l k (some j) = refl
+  enter-number l k none = test (free d l)
+    where
+      test : (b : Bool) → isRefusal k ((enterIf b d party l) .answer) ≡ false
+      test true = refl
+      test false = refl
+
+  get-number : (value k : ℕ) (o : Option ℕ) → isRefusal k ((getUnless o d value) .answer) ≡ isNumber k o
+  get-number value k (some j) = refl
+  get-number value k none = refl
+
+  put-number : (node value : ℕ) (values : List ℕ) (k : ℕ) (o : Option ℕ) → isRefusal k ((putUnless o d node value values) .answer) ≡ isNumber k o
+  put-number node value values k (some j) = refl
+  put-number node value values k none = refl
+
+  leave-same : (list : List ℕ) (k : ℕ) (o : Option ℕ) → o ≡ some k → (leaveUnless o d party list) .desk ≡ d
+  leave-same list k (some j) e = refl
+  leave-same list k none e = not-both true refl cc
+
+  leave-number : (list bytes : List ℕ) (k : ℕ) (o : Option ℕ) → isRefusal k (listed bytes ((leaveUnless o d party list) .answer)) ≡ isNumber k o
+  unfolding listed
+  leave-number list bytes k (some j) = refl
+  leave-number list bytes k none = refl
+
+-- ONE STEP of a list, from a desk that is shaped and sound
+record Fine (H : Hierarchy) (d : Desk) : Type 0 where
+  shaped : Shaped d
+  sound : soundDesk H d ≡ true
+
+record Stepped (H : Hierarchy) (m : Moved) : Type 0 where
+  fine : Fine H (m .state .desk)
+  event : refusedWith 10 (m .event) ≡ false
+
+module _ (H : Hierarchy) (b : Built H) (x : Step) (d : Desk) (f : Fine H d) where
+  agree : tablesShort (lentTo x H) ≡ false → Agree (lentTo x H) H
+  agree = lent-agrees H x (built-two-each H b)
+
+  -- 10 does not hold
+  not-ten : (party : ℕ) (short : Bool) (own : List Check) → NoneWith 10 own → isNumber 10 (refusal (stepChecks (lentTo x H) d party short own)) ≡ false
+  unfolding lentTo
+  not-ten party short own o =
+      bool (tablesShort (lentTo x H))
+      (λ e. rw (short-first (lentTo x H) d party short own e))
+      (λ e. not-refused 10 (stepChecks (lentTo x H) d party short own) (refl, (refl, (refl, (refl, (fine e, (refl, o)))))))
+    where
+      fine : tablesShort (lentTo x H) ≡ false → (anyBelow (H .n) (intervalWrong (lentTo x H)) || not (soundDesk (lentTo x H) d)) ≡ false
+      fine e =
+          or-neither (anyBelow (H .n) (intervalWrong (lentTo x H))) (not (soundDesk (lentTo x H) d))
+          (none-of (intervalWrong (lentTo x H)) (H .n) (λ i h. wrong-agrees (lentTo x H) H (agree e) i h ∙ built-right H b i h))
+          (ap not (sound-agrees (lentTo x H) H (agree e) d ∙ f .sound))
+
+  -- the desk handed back is sound, since the step saw the built intervals or was refused with 1
+  kept : (new : Desk) → (tablesShort (lentTo x H) ≡ true → new ≡ d) → (soundDesk (lentTo x H) d ≡ true → soundDesk (lentTo x H) new ≡ true) → soundDesk H new ≡ true
+  kept new same step =
+      bool (tablesShort (lentTo x H))
+      (λ e. rw (same e) (f .sound))
+      (λ e. sym (sound-agrees (lentTo x H) H (agree e) new) ∙ step (sound-agrees (lentTo x H) H (agree e) d ∙ f .sound))
+
+  -- get and put alike
+  value-not-ten : (party node : ℕ) (values : List ℕ) (own : List Check) → NoneWith 10 own → isNumber 10 (refusal (valueChecks (lentTo x H) d party node values own)) ≡ false
+  value-not-ten party node values own o =
+      not-ten party (ltb (length values) (lentTo x H .n))
+      (13 when isOut (stageAt d party)
+      ∷ 14 when isWaiting (stageAt d party)
+      ∷ 15 when not (ltb node (lentTo x H .n))
+      ∷ 16 when not (insideHold (lentTo x H) node (stageAt d party))
+      ∷ own)
+      (refl, (refl, (refl, (refl, o))))
+
+call-stepped : (H : Hierarchy) → Built H → (x : Step) (c : Call) (s : State) → Fine H (s .desk) → Stepped H (moveCall (lentTo x H) c s)
+unfolding moveCall afterEnter afterGet afterPut afterLeave enterStep getStep putStep leaveStep
+call-stepped H b x (enter party mode names nameCount) s f =
+    let l : Lock = lockOn (lentTo x H) mode (coverIn (lentTo x H) (take nameCount names)) in
+    let own : List Check = 12 when not (isOut (stageAt (s .desk) party)) ∷ 15 when namesWrong (lentTo x H .n) names nameCount ∷ [] in
+    record {
+      fine = record {
+        shaped = enter-shaped (lentTo x H) (s .desk) party mode names nameCount (f .shaped);
+        sound = kept H b x (s .desk) f _
+            (λ e. enter-same (s .desk) party l 1 _ (short-first (lentTo x H) (s .desk) party (ltb (length names) nameCount) own e))
+            (enter-sound (lentTo x H) (s .desk) party mode names nameCount (f .shaped));
+      };
+      event = enter-number (s .desk) party l 10 (enterRefusal (lentTo x H) (s .desk) party names nameCount)
+          ∙ not-ten H b x (s .desk) f party (ltb (length names) nameCount) own (refl, (refl, tt));
+    }
+call-stepped H b x (get party node l) s f = record {
+  fine = rw (unchanged-get (lentTo x H) (s .desk) party node (lend (s .values) l)) f;
+  event = get-number (s .desk) party (getD (lend (s .values) l) node 0) 10 (refusal (valueChecks (lentTo x H) (s .desk) party node (lend (s .values) l) []))
+      ∙ value-not-ten H b x (s .desk) f party node (lend (s .values) l) [] tt;
+}
+call-stepped H b x (put party node value l) s f =
+    let own : List Check = 17 when readsOnly (stageAt (s .desk) party) ∷ [] in
+    record {
+      fine = rw (unchanged-put (lentTo x H) (s .desk) party node value (lend (s .values) l)) f;
+      event = put-number (s .desk) party node value (lend (s .values) l) 10 (refusal (valueChecks (lentTo x H) (s .desk) party node (lend (s .values) l) own))
+          ∙ value-not-ten H b x (s .desk) f party node (lend (s .values) l) own (refl, tt);
+    }
+call-stepped H b x (leave party list) s f =
+    let own : List Check = 13 when isOut (stageAt (s .desk) party) ∷ [] in
+    record {
+      fine = record {
+        shaped = leave-shaped (lentTo x H) (s .desk) party list (f .shaped);
+        sound = kept H b x (s .desk) f _
+            (λ e. leave-same (s .desk) party list 1 _ (short-first (lentTo x H) (s .desk) party (ltb (length list) 32) own e))
+            (leave-sound (lentTo x H) (s .desk) party list (f .shaped));
+      };
+      event = leave-number (s .desk) party list _ 10 (leaveRefusal (lentTo x H) (s .desk) party list)
+          ∙ not-ten H b x (s .desk) f party (ltb (length list) 32) own (refl, tt);
+    }
+
+-- A LIST of steps
+run-fine : (H : Hierarchy) → Built H → (steps : List Step) (s : State) → Fine H (s .desk)
+    → Fine H ((run H steps s) .state .desk) × (any (refusedWith 10) ((run H steps s) .events) ≡ false)
+unfolding run alsoRan move any
+run-fine H b [] s f = (f, refl)
+run-fine H b (x ∷ xs) s f =
+    let m = call-stepped H b x (x .call) s f in
+    let (last, rest) = run-fine H b xs ((moveCall (lentTo x H) (x .call) s) .state) (m .fine) in
+    (last, or-neither (refusedWith 10 ((moveCall (lentTo x H) (x .call) s) .event)) _ (m .event) rest)
+
+start-fine : (H : Hierarchy) (values : List ℕ) → Fine H ((start values) .desk)
+unfolding start
+start-fine H values = record { shaped = fresh-shaped; sound = fresh-sound H }
+
+-- THE THEOREM: over a built hierarchy no step of any list is refused with 10, from a fresh desk and any values
+pub never-ten : (H : Hierarchy) → Built H → (values : List ℕ) (steps : List Step) → any (refusedWith 10) ((run H steps (start values)) .events) ≡ false
+never-ten H b values steps = run-fine H b steps (start values) (start-fine H values) .1
+
+-- and the desk that any list leaves is sound
+pub run-sound : (H : Hierarchy) → Built H → (values : List ℕ) (steps : List Step) → soundDesk H ((run H steps (start values)) .state .desk) ≡ true
+run-sound H b values steps = run-fine H b steps (start values) (start-fine H values) .0 .sound
