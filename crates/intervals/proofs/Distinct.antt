@@ -1,4 +1,4 @@
--- Members and places of a list, lists of different numbers, and how long such a list can be. Assumes nothing.
+-- More laws of tests and members; the places of a list; lists of different numbers, and how long such a list can be. Assumes nothing.
 use mathlib.Core.Path.{_≡_, refl, sym, ap, _∙_, subst}
 use mathlib.Core.Logic.{_⊎_, inl, inr, _≢_}
 use mathlib.Core.List.{List, [], _∷_, _++_, append-nil}
@@ -7,10 +7,16 @@ use Prim.Native.Nat.{ℕ, zero, suc, _≤_, _<_}
 use native.Mathlib.Omega.{arith}
 use lib.Dec.{eqb}
 use lib.ListN.{length, getD}
-use borrow.Author.Tests.{eqb-true, eqb-false, eq-eqb, ne-eqb, not-true}
-use Rattle.intervals.specs.Lists.{anyBelow, keptIf, any, keep}
+use borrow.Author.Tests.{eqb-true, eqb-false, ne-eqb, not-true}
+use Rattle.intervals.specs.Lists.{allBelow, anyBelow, any, keep}
 use Rattle.intervals.proofs.Bools.{bool, not-both}
 use Rattle.intervals.proofs.Members.{In, head, tail, in-nil, in-cons, kept-in}
+
+-- two tests that agree at each number
+pub all-alike : (p q : ℕ → Bool) (n : ℕ) → ((i : ℕ) → p i ≡ q i) → allBelow n p ≡ allBelow n q
+unfolding allBelow
+all-alike p q zero f = refl
+all-alike p q (suc n) f = rw (all-alike p q n f, f n)
 
 -- where a test holds at some number below a bound, there is one
 pub any-some : (p : ℕ → Bool) (n : ℕ) → anyBelow n p ≡ true → (i : ℕ) × (i < n) × (p i ≡ true)
@@ -91,7 +97,7 @@ abbrev pub Distinct : List ℕ → Type 0
 Distinct [] = Unit {0}
 Distinct (x ∷ xs) = (In x xs → ⊥) × Distinct xs
 
--- as the places say it
+-- the same said of places
 pub distinct-at : (xs : List ℕ) → Distinct xs → (i j : ℕ) → j < i → i < length xs → getD xs i 0 ≢ getD xs j 0
 distinct-at [] s i j h k e = omega arith
 distinct-at (x ∷ xs) s zero j h k e = omega arith

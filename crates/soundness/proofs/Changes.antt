@@ -2,24 +2,24 @@
 use mathlib.Core.Path.{_≡_, refl, sym, ap, _∙_, subst}
 use mathlib.Core.Logic.{_⊎_, inl, inr, _≢_}
 use mathlib.Core.List.{List, [], _∷_, _++_, append-nil}
-use mathlib.Core.Bool.{Bool, true, false, not, _&&_, _||_, or-true, true≢false}
-use Prim.Native.Nat.{ℕ, zero, suc, _+_, _≤_, _<_}
+use mathlib.Core.Bool.{Bool, true, false, not, or-true, true≢false}
+use Prim.Native.Nat.{ℕ, zero, suc, _<_}
 use native.Mathlib.Omega.{arith}
 use lib.Dec.{eqb}
 use lib.ListN.{length, getD, set, take, drop, take-append-drop, length-set, length-append, List·getD-append}
 use lib.Seq.{getD-set-same, getD-set-other, take-append-le, take-append-seam, getD-append-seam}
-use borrow.Author.Tests.{eqb-true, eqb-false, eq-eqb, ne-eqb, not-true}
-use Rattle.intervals.specs.Lists.{anyBelow, any, keep}
-use Rattle.intervals.proofs.Bools.{bool, not-both, or-left, or-right}
+use borrow.Author.Tests.{eqb-true, eqb-false, ne-eqb, not-true}
+use Rattle.intervals.specs.Lists.{keep}
+use Rattle.intervals.proofs.Bools.{bool, not-both}
 use Rattle.intervals.proofs.Bounded.{any-stop, any-none}
-use Rattle.intervals.proofs.Members.{In, head, tail}
+use Rattle.intervals.proofs.Members.{In}
 use Rattle.intervals.proofs.Distinct.{any-some, any-alike, place-in, in-front, in-between, in-around, in-either, in-keep, keep-in, Distinct, distinct-last, distinct-between, distinct-keep}
 use Rattle.desk.specs.declared.Lock.{Lock}
 use Rattle.desk.specs.declared.Stage.{Stage}
 use Rattle.desk.specs.declared.Stage.the-variants.{Out, Waiting, Holding}
 use Rattle.desk.specs.declared.Entry.{Entry}
 use Rattle.desk.specs.Locks.{conflict, realInterval}
-use Rattle.desk.specs.Desks.{Hierarchy, entryOf, stageIn, isWaiting, againstHolder, againstWaiter, meetsHolder, meetsWaiter}
+use Rattle.desk.specs.Desks.{Hierarchy, entryOf, stageIn, isWaiting, againstHolder, againstWaiter, meetsHolder}
 use Rattle.desk.specs.Sound.{ofLock, coverRight, heldUp}
 use Rattle.history.proofs.Facts.{set-stage, holder-below, conflict-sym}
 use Rattle.soundness.proofs.Orderly.{Orderly, HeldUp}

@@ -1,20 +1,20 @@
 -- THEOREMS: every step, from a sound desk, hands back a sound desk, with any hierarchy and any arguments whatever. Assumes nothing.
-use mathlib.Core.Path.{_≡_, refl, sym, ap, _∙_, subst}
+use mathlib.Core.Path.{_≡_, refl, sym, ap, _∙_}
 use mathlib.Core.Logic.{_≢_}
 use mathlib.Core.List.{List, [], _∷_, _++_, append-nil}
-use mathlib.Core.Bool.{Bool, true, false, not, _&&_, _||_, or-true, true≢false}
+use mathlib.Core.Bool.{Bool, true, false, not, _||_, or-true}
 use mathlib.Core.Option.{Option, none, some}
-use Prim.Native.Nat.{ℕ, zero, suc, _+_, _*_, _≤_, _<_}
+use Prim.Native.Nat.{ℕ, _<_}
 use native.Mathlib.Omega.{arith}
 use lib.Dec.{eqb, ltb}
 use lib.ListN.{length, set, take, length-set, length-append}
 use lib.Seq.{append-snoc}
 use borrow.Author.Tests.{eq-eqb, ltb-false, lt-ltb, not-true, not-false}
 use Rattle.intervals.specs.Lists.{anyBelow, keep}
-use Rattle.intervals.specs.Answer.{Check, _when_, refusal}
-use Rattle.intervals.specs.Hierarchy.{edgesOf, someEdge, sizeWrong, edgesTooMany, edgeWrong, Edge}
+use Rattle.intervals.specs.Answer.{Check, _when_}
+use Rattle.intervals.specs.Hierarchy.{edgesOf, edgeWrong}
 use Rattle.intervals.specs.Cover.{callInterval, coverOfInterval}
-use Rattle.intervals.proofs.Bools.{bool, not-both, and-both, or-left, or-right}
+use Rattle.intervals.proofs.Bools.{bool, not-both, or-left}
 use Rattle.intervals.proofs.Refusals.{NoneHolds, refusal-none}
 use Rattle.intervals.proofs.Bounded.{any-stop, any-none, none-of}
 use Rattle.intervals.proofs.Members.{In}
@@ -28,18 +28,19 @@ use Rattle.desk.specs.declared.Stage.the-variants.{Out, Waiting, Holding}
 use Rattle.desk.specs.declared.Entry.{Entry}
 use Rattle.desk.specs.declared.Desk.{Desk}
 use Rattle.desk.specs.Locks.{realInterval}
-use Rattle.desk.specs.Desks.{Hierarchy, lowIn, highIn, coverIn, entryOf, stageIn, stageAt, isOut, isWaiting, queueOf, queuePlaces, freshDesk, againstHolder, againstWaiter, meetsHolder, meetsWaiter}
-use Rattle.desk.specs.Sound.{coverRight, heldUp, soundDesk}
-use Rattle.desk.specs.Steps.{tablesShort, intervalWrong, stepChecks, lockOn, free, grantTo, queueLast, namesWrong, enterRefusal, enterIf, enterUnless, enterStep, getStep, putStep, Sweep, staysWaiting, isGranted, offerIf, offerTo, offer, sweep, afterLeaving, leaveWith, leaveRefusal, leaveUnless, leaveStep}
+use Rattle.desk.specs.Desks.{Hierarchy, lowIn, highIn, coverIn, entryOf, stageIn, stageAt, isOut, isWaiting, queueOf, freshDesk, againstHolder, againstWaiter, meetsHolder, meetsWaiter}
+use Rattle.desk.specs.Sound.{coverRight, soundDesk}
+use Rattle.desk.specs.Steps.{intervalWrong, stepChecks, lockOn, free, grantTo, queueLast, namesWrong, enterRefusal, enterIf, enterUnless, enterStep, getStep, putStep, Sweep, offerIf, offerTo, offer, sweep, afterLeaving, leaveWith, leaveRefusal, leaveUnless, leaveStep}
 use Rattle.history.proofs.Facts.{sweep-length}
 use Rattle.soundness.proofs.Laws.{unchanged-get, unchanged-put}
 use Rattle.soundness.proofs.Orderly.{Shaped, Reads, Orderly, HeldUp, sound-reads, places-long, sound-orderly, sound-held, made-sound}
 use Rattle.soundness.proofs.Changes.{stage-same, stage-other, waits-apart, called, ended, admitted, granted, still-meets, up-set, up-last}
 
--- SHAPE: what the array types say is kept
+-- SHAPE: a fresh desk has it
 pub fresh-shaped : Shaped freshDesk
 fresh-shaped = record { entries = refl; queue = refl }
 
+-- enter keeps it
 pub enter-shaped : (H : Hierarchy) (d : Desk) (party : ℕ) (mode : Mode) (names : List ℕ) (nameCount : ℕ) → Shaped d
     → Shaped ((enterStep H d party mode names nameCount) .desk)
 unfolding enterStep
@@ -56,12 +57,14 @@ enter-shaped H d party mode names nameCount shape = by (enterRefusal H d party n
     by (some k) = shape
     by none = test (free d l)
 
+-- get and put keep it
 pub get-shaped : (H : Hierarchy) (d : Desk) (party node : ℕ) (values : List ℕ) → Shaped d → Shaped ((getStep H d party node values) .desk)
 get-shaped H d party node values shape = rw (unchanged-get H d party node values) shape
 
 pub put-shaped : (H : Hierarchy) (d : Desk) (party node value : ℕ) (values : List ℕ) → Shaped d → Shaped ((putStep H d party node value values) .desk)
 put-shaped H d party node value values shape = rw (unchanged-put H d party node value values) shape
 
+-- leave keeps it
 pub leave-shaped : (H : Hierarchy) (d : Desk) (party : ℕ) (list : List ℕ) → Shaped d → Shaped ((leaveStep H d party list) .desk)
 unfolding leaveStep
 leave-shaped H d party list shape = by (leaveRefusal H d party list)
@@ -77,11 +80,12 @@ leave-shaped H d party list shape = by (leaveRefusal H d party list)
     }
 
 -- WHAT AN UNREFUSED STEP KNOWS of its tables and its party
-pub record Checked (H : Hierarchy) (party : ℕ) : Type 0 where
-  pub cover-below : (names : List ℕ) → coverIn H names < H .n
-  pub real : (node : ℕ) → node < H .n → realInterval (lowIn H node) (highIn H node) ≡ true
-  pub party-below : party < 32
+record Checked (H : Hierarchy) (party : ℕ) : Type 0 where
+  cover-below : (names : List ℕ) → coverIn H names < H .n
+  real : (node : ℕ) → node < H .n → realInterval (lowIn H node) (highIn H node) ≡ true
+  party-below : party < 32
 
+-- covers are nodes, since the search only goes along edges
 checked : (H : Hierarchy) (d : Desk) (party : ℕ) (short : Bool) (own : List Check) → NoneHolds (stepChecks H d party short own) → Checked H party
 unfolding coverOfInterval
 checked H d party short own f = record {
@@ -101,7 +105,7 @@ checked H d party short own f = record {
         (or-left (not (realInterval (lowIn H node) (highIn H node))) (ltb (lowIn H node) (lowIn H 0))
         (or-left (not (realInterval (lowIn H node) (highIn H node)) || ltb (lowIn H node) (lowIn H 0)) (ltb (highIn H 0) (highIn H node)) w))
 
--- ENTER
+-- ENTER, of a party that is out, with a lock whose interval and cover are right
 is-out : (x : Stage) → isOut x ≡ true → x ≡ Out
 is-out Out e = refl
 is-out (Waiting l) e = not-both true refl (sym e)
@@ -120,10 +124,11 @@ module _ (H : Hierarchy) (d : Desk) (party : ℕ) (l : Lock) (shape : Shaped d) 
   orderly : Orderly H (d .entries) (queueOf d)
   orderly = sound-orderly H d (queueOf d) reads (shape .entries) sound
 
-  -- a party that is out does not hold, and is not listed
+  -- no holder is the party
   holder-apart : (q : ℕ) (g : Lock) → stageAt d q ≡ Holding g → q ≢ party
   holder-apart q g e c = let s : stageAt d party ≡ Holding g = rw c at e in not-both true refl (cc)
 
+  -- the waiters stay held up, whatever the party becomes
   up : (x : Stage) → HeldUp (set (d .entries) party (entryOf x)) (queueOf d)
   up x = up-set (d .entries) (queueOf d) party x (λ g e. holder-apart party g e refl) (λ m. waits-apart orderly party party (ap isWaiting out) m refl)
       (sound-held H d (queueOf d) reads sound)
@@ -186,19 +191,21 @@ enter-sound H d party mode names nameCount shape sound = by (enterRefusal H d pa
         (rw (lt-ltb cover (H .n) b, eq-eqb (lowIn H cover) (lowIn H cover) refl, eq-eqb (highIn H cover) (highIn H cover) refl))
         (free d (lockOn H mode cover)) refl
 
--- GET and PUT hand back the desk given
+-- GET hands back the desk given
 pub get-sound : (H : Hierarchy) (d : Desk) (party node : ℕ) (values : List ℕ) → soundDesk H d ≡ true → soundDesk H ((getStep H d party node values) .desk) ≡ true
 get-sound H d party node values sound = rw (unchanged-get H d party node values) sound
 
+-- and so does put
 pub put-sound : (H : Hierarchy) (d : Desk) (party node value : ℕ) (values : List ℕ) → soundDesk H d ≡ true
     → soundDesk H ((putStep H d party node value values) .desk) ≡ true
 put-sound H d party node value values sound = rw (unchanged-put H d party node value values) sound
 
--- LEAVE'S PASS, with the parties to come: they and those that stay are the list, and those that stay are held up
+-- LEAVE'S PASS: the parties that stay and those to come are the list, and those that stay are held up
 record Going (H : Hierarchy) (s : Sweep) (after : List ℕ) : Type 0 where
   orderly : Orderly H (s .entries) (s .stay ++ after)
   held : HeldUp (s .entries) (s .stay)
 
+-- one waiter is taken
 offer-going : (H : Hierarchy) (s : Sweep) (p : ℕ) (after : List ℕ) → Going H s (p ∷ after) → Going H (offer s p) after
 unfolding offer
 offer-going H s p after g = by (stageIn (s .entries) p) refl
@@ -223,6 +230,7 @@ offer-going H s p after g = by (stageIn (s .entries) p) refl
     by (Waiting l) e = test l (meetsHolder (s .entries) l || meetsWaiter (s .entries) (s .stay) l) e refl
     by (Holding l) e = not-both true refl (sym (rw e at waits))
 
+-- all are
 sweep-going : (H : Hierarchy) (after : List ℕ) (s : Sweep) → Going H s after → Going H (sweep s after) []
 unfolding sweep
 sweep-going H [] s g = g

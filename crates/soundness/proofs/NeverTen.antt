@@ -3,39 +3,37 @@ use mathlib.Core.Path.{_≡_, refl, sym, ap, _∙_}
 use mathlib.Core.List.{List, [], _∷_}
 use mathlib.Core.Bool.{Bool, true, false, not, _&&_, _||_, and-true}
 use mathlib.Core.Option.{Option, none, some}
-use Prim.Native.Nat.{ℕ, zero, suc, _+_, _*_, _≤_, _<_}
+use Prim.Native.Nat.{ℕ, _+_, _*_, _<_}
 use native.Mathlib.Omega.{arith}
-use lib.Dec.{eqb, leb, ltb}
+use lib.Dec.{eqb, ltb}
 use lib.ListN.{length, getD, take}
 use borrow.Author.Tests.{ltb-true, ltb-false, le-ltb, le-leb}
-use Rattle.intervals.specs.Lists.{allBelow, anyBelow, any}
-use Rattle.intervals.specs.Answer.{Answer, done, refused, Check, _when_, refusal}
-use Rattle.intervals.specs.Hierarchy.{edgesOf, someEdge, sizeWrong, edgesTooMany, edgeWrong, Legal}
-use Rattle.intervals.specs.Intervals.{lowOf, highOf, intervalTable}
+use Rattle.intervals.specs.Lists.{anyBelow, any}
+use Rattle.intervals.specs.Answer.{Check, _when_, refusal}
+use Rattle.intervals.specs.Hierarchy.{edgesOf}
+use Rattle.intervals.specs.Intervals.{lowOf, highOf}
 use Rattle.intervals.specs.Cover.{lowAt, highAt}
-use Rattle.intervals.proofs.Bools.{bool, not-both, and-both, or-left, or-right, or-neither}
+use Rattle.intervals.proofs.Bools.{bool, not-both, or-left, or-neither}
 use Rattle.intervals.proofs.Refusals.{refused-here, refused-later}
 use Rattle.intervals.proofs.Bounded.{none-of}
-use Rattle.intervals.proofs.Legals.{Promise, promised}
-use Rattle.interval_laws.proofs.Laws.{built-low, built-high, interval-real, interval-inside-root, Taken, taken}
-use Rattle.desk.specs.declared.Mode.{Mode}
+use Rattle.intervals.proofs.Distinct.{all-alike}
+use Rattle.intervals.proofs.Legals.{promised}
+use Rattle.interval_laws.proofs.Laws.{built-low, built-high, interval-real, interval-inside-root, taken}
 use Rattle.desk.specs.declared.Lock.{Lock}
 use Rattle.desk.specs.declared.Stage.{Stage}
 use Rattle.desk.specs.declared.Stage.the-variants.{Out, Waiting, Holding}
 use Rattle.desk.specs.declared.Desk.{Desk}
-use Rattle.desk.specs.Locks.{realInterval}
-use Rattle.desk.specs.Desks.{Hierarchy, lowIn, highIn, coverIn, stageAt, isOut, isWaiting, freshDesk}
-use Rattle.desk.specs.Sound.{listsParties, listsOnce, listsWaiting, ofLock, intervalsReal, coverRight, coversRight, holdersApart, waitersHeldUp, soundDesk}
+use Rattle.desk.specs.Desks.{Hierarchy, lowIn, highIn, coverIn, stageAt, isOut, isWaiting}
+use Rattle.desk.specs.Sound.{listsParties, listsOnce, listsWaiting, ofLock, intervalsReal, coverRight, holdersApart, waitersHeldUp, soundDesk}
 use Rattle.desk.specs.Steps.{tablesShort, intervalWrong, stepChecks, namesWrong, lockOn, enterRefusal, free, enterIf, enterUnless, enterStep, insideHold, valueChecks, getUnless, getStep, readsOnly, putUnless, putStep, leaveRefusal, leaveUnless, leaveStep}
-use Rattle.history.specs.History.{Event}
-use Rattle.history.specs.Run.{Lending, lend, Call, enter, get, put, leave, Step, lentTo, State, start, Moved, afterEnter, afterGet, afterPut, listed, afterLeave, moveCall, move, alsoRan, run}
+use Rattle.history.specs.Run.{lend, Call, enter, get, put, leave, Step, lentTo, State, start, Moved, afterEnter, afterGet, afterPut, listed, afterLeave, moveCall, move, alsoRan, run}
 use Rattle.history.specs.Serial.{Built}
 use Rattle.history.proofs.Facts.{lend-at}
 use Rattle.history.proofs.Serializable.{built-two-each}
 use Rattle.soundness.specs.Refused.{isRefusal, refusedWith}
 use Rattle.soundness.proofs.Laws.{unchanged-get, unchanged-put, fresh-sound}
 use Rattle.soundness.proofs.Orderly.{Shaped}
-use Rattle.soundness.proofs.Kept.{fresh-shaped, enter-shaped, get-shaped, put-shaped, leave-shaped, enter-sound, leave-sound}
+use Rattle.soundness.proofs.Kept.{fresh-shaped, enter-shaped, leave-shaped, enter-sound, leave-sound}
 
 -- TWO HIERARCHIES that agree on n and on the intervals of the nodes
 record Agree (K H : Hierarchy) : Type 0 where
@@ -43,7 +41,7 @@ record Agree (K H : Hierarchy) : Type 0 where
   low : (node : ℕ) → node < H .n → lowIn K node ≡ lowIn H node
   high : (node : ℕ) → node < H .n → highIn K node ≡ highIn H node
 
--- what a step is lent of a table of 2n numbers agrees with it where it is not too short
+-- the hierarchy as lent agrees with the one of 2n numbers where it is not too short
 lent-agrees : (H : Hierarchy) (x : Step) → length (H .intervals) ≡ 2 * H .n → tablesShort (lentTo x H) ≡ false → Agree (lentTo x H) H
 unfolding lentTo
 lent-agrees H x two short =
@@ -54,12 +52,8 @@ lent-agrees H x two short =
       high = λ node h. lend-at (H .intervals) (x .intervals) (2 * node + 1) (omega arith) (omega arith);
     }
 
-all-alike : (p q : ℕ → Bool) (n : ℕ) → ((i : ℕ) → p i ≡ q i) → allBelow n p ≡ allBelow n q
-unfolding allBelow
-all-alike p q zero f = refl
-all-alike p q (suc n) f = rw (all-alike p q n f, f n)
-
 module _ (K H : Hierarchy) (a : Agree K H) where
+  -- what is asked of a lock's cover is the same
   cover-agrees : (l : Lock) → coverRight K l ≡ coverRight H l
   cover-agrees l =
       rw (a .size)
@@ -99,10 +93,10 @@ built-right H b node h =
       le-leb (lowIn H node) (highIn H node) (omega (arith, low node h, high node h, real)),
       le-leb (highIn H node) 256 (omega (arith, high node h, real)),
       le-ltb (lowIn H node) (lowIn H 0) (omega (arith, low node h, low 0 root, inside)),
-      le-ltb (highIn H 0) (highIn H node) (omega (arith, high node h, high 0 root, inside))
+      le-ltb (highIn H 0) (highIn H node) (omega (arith, high node h, high 0 root, inside)),
     )
 
--- REFUSALS. The refusal is k
+-- REFUSALS: whether one is k
 abbrev isNumber : ℕ → Option ℕ → Bool
 isNumber k none = false
 isNumber k (some j) = eqb j k
@@ -112,6 +106,7 @@ abbrev NoneWith : ℕ → List Check → Type 0
 NoneWith k [] = Unit {0}
 NoneWith k (c ∷ cs) = ((eqb (c .number) k && c .holds) ≡ false) × NoneWith k cs
 
+-- so the refusal is not k
 not-refused : (k : ℕ) (cs : List Check) → NoneWith k cs → isNumber k (refusal cs) ≡ false
 unfolding refusal
 not-refused k [] f = refl
@@ -120,51 +115,53 @@ not-refused k (c ∷ cs) f =
     (λ e. rw (refused-here c cs e) (sym (and-true (eqb (c .number) k)) ∙ rw e at (f .0)))
     (λ e. rw (refused-later c cs e) (not-refused k cs (f .1)))
 
--- tables that are too short are refused with 1
+-- a step with tables that are too short is refused with 1
 short-first : (K : Hierarchy) (d : Desk) (party : ℕ) (short : Bool) (own : List Check) → tablesShort K ≡ true → refusal (stepChecks K d party short own) ≡ some 1
 short-first K d party short own e = refused-here (1 when (tablesShort K || short)) _ (ap (λ (b : Bool). b || short) e)
 
--- what a refused step leaves, and the number that its answer has
-module _ (d : Desk) (party : ℕ) where
-  enter-same : (l : Lock) (k : ℕ) (o : Option ℕ) → o ≡ some k → (enterUnless o d party l) .desk ≡ d
-  enter-same l k (some j) e = refl
-  enter-same l k none e = not-both true refl cc
+-- a refused step leaves the desk, and its answer has the refusal's number
+module _ (d : Desk) (k : ℕ) where
+  enter-same : (party : ℕ) (l : Lock) (o : Option ℕ) → o ≡ some k → (enterUnless o d party l) .desk ≡ d
+  enter-same party l (some j) e = refl
+  enter-same party l none e = not-both true refl cc
 
-  enter-number : (l : Lock) (k : ℕ) (o : Option ℕ) → isRefusal k ((enterUnless o d party l) .answer) ≡ isNumber k o
-  enter-number l k (some j) = refl
-  enter-number l k none = test (free d l)
+  leave-same : (party : ℕ) (list : List ℕ) (o : Option ℕ) → o ≡ some k → (leaveUnless o d party list) .desk ≡ d
+  leave-same party list (some j) e = refl
+  leave-same party list none e = not-both true refl cc
+
+  enter-number : (party : ℕ) (l : Lock) (o : Option ℕ) → isRefusal k ((enterUnless o d party l) .answer) ≡ isNumber k o
+  enter-number party l (some j) = refl
+  enter-number party l none = test (free d l)
     where
       test : (b : Bool) → isRefusal k ((enterIf b d party l) .answer) ≡ false
       test true = refl
       test false = refl
 
-  get-number : (value k : ℕ) (o : Option ℕ) → isRefusal k ((getUnless o d value) .answer) ≡ isNumber k o
-  get-number value k (some j) = refl
-  get-number value k none = refl
+  get-number : (value : ℕ) (o : Option ℕ) → isRefusal k ((getUnless o d value) .answer) ≡ isNumber k o
+  get-number value (some j) = refl
+  get-number value none = refl
 
-  put-number : (node value : ℕ) (values : List ℕ) (k : ℕ) (o : Option ℕ) → isRefusal k ((putUnless o d node value values) .answer) ≡ isNumber k o
-  put-number node value values k (some j) = refl
-  put-number node value values k none = refl
+  put-number : (node value : ℕ) (values : List ℕ) (o : Option ℕ) → isRefusal k ((putUnless o d node value values) .answer) ≡ isNumber k o
+  put-number node value values (some j) = refl
+  put-number node value values none = refl
 
-  leave-same : (list : List ℕ) (k : ℕ) (o : Option ℕ) → o ≡ some k → (leaveUnless o d party list) .desk ≡ d
-  leave-same list k (some j) e = refl
-  leave-same list k none e = not-both true refl cc
-
-  leave-number : (list bytes : List ℕ) (k : ℕ) (o : Option ℕ) → isRefusal k (listed bytes ((leaveUnless o d party list) .answer)) ≡ isNumber k o
+  leave-number : (party : ℕ) (list bytes : List ℕ) (o : Option ℕ) → isRefusal k (listed bytes ((leaveUnless o d party list) .answer)) ≡ isNumber k o
   unfolding listed
-  leave-number list bytes k (some j) = refl
-  leave-number list bytes k none = refl
+  leave-number party list bytes (some j) = refl
+  leave-number party list bytes none = refl
 
 -- ONE STEP of a list, from a desk that is shaped and sound
 record Fine (H : Hierarchy) (d : Desk) : Type 0 where
   shaped : Shaped d
   sound : soundDesk H d ≡ true
 
+-- the step hands back such a desk, and is not refused with 10
 record Stepped (H : Hierarchy) (m : Moved) : Type 0 where
   fine : Fine H (m .state .desk)
   event : refusedWith 10 (m .event) ≡ false
 
 module _ (H : Hierarchy) (b : Built H) (x : Step) (d : Desk) (f : Fine H d) where
+  -- the step sees the built intervals
   agree : tablesShort (lentTo x H) ≡ false → Agree (lentTo x H) H
   agree = lent-agrees H x (built-two-each H b)
 
@@ -200,6 +197,7 @@ module _ (H : Hierarchy) (b : Built H) (x : Step) (d : Desk) (f : Fine H d) wher
       ∷ own)
       (refl, (refl, (refl, (refl, o))))
 
+-- each of the four
 call-stepped : (H : Hierarchy) → Built H → (x : Step) (c : Call) (s : State) → Fine H (s .desk) → Stepped H (moveCall (lentTo x H) c s)
 unfolding moveCall afterEnter afterGet afterPut afterLeave enterStep getStep putStep leaveStep
 call-stepped H b x (enter party mode names nameCount) s f =
@@ -209,22 +207,22 @@ call-stepped H b x (enter party mode names nameCount) s f =
       fine = record {
         shaped = enter-shaped (lentTo x H) (s .desk) party mode names nameCount (f .shaped);
         sound = kept H b x (s .desk) f _
-            (λ e. enter-same (s .desk) party l 1 _ (short-first (lentTo x H) (s .desk) party (ltb (length names) nameCount) own e))
+            (λ e. enter-same (s .desk) 1 party l _ (short-first (lentTo x H) (s .desk) party (ltb (length names) nameCount) own e))
             (enter-sound (lentTo x H) (s .desk) party mode names nameCount (f .shaped));
       };
-      event = enter-number (s .desk) party l 10 (enterRefusal (lentTo x H) (s .desk) party names nameCount)
+      event = enter-number (s .desk) 10 party l (enterRefusal (lentTo x H) (s .desk) party names nameCount)
           ∙ not-ten H b x (s .desk) f party (ltb (length names) nameCount) own (refl, (refl, tt));
     }
 call-stepped H b x (get party node l) s f = record {
   fine = rw (unchanged-get (lentTo x H) (s .desk) party node (lend (s .values) l)) f;
-  event = get-number (s .desk) party (getD (lend (s .values) l) node 0) 10 (refusal (valueChecks (lentTo x H) (s .desk) party node (lend (s .values) l) []))
+  event = get-number (s .desk) 10 (getD (lend (s .values) l) node 0) (refusal (valueChecks (lentTo x H) (s .desk) party node (lend (s .values) l) []))
       ∙ value-not-ten H b x (s .desk) f party node (lend (s .values) l) [] tt;
 }
 call-stepped H b x (put party node value l) s f =
     let own : List Check = 17 when readsOnly (stageAt (s .desk) party) ∷ [] in
     record {
       fine = rw (unchanged-put (lentTo x H) (s .desk) party node value (lend (s .values) l)) f;
-      event = put-number (s .desk) party node value (lend (s .values) l) 10 (refusal (valueChecks (lentTo x H) (s .desk) party node (lend (s .values) l) own))
+      event = put-number (s .desk) 10 node value (lend (s .values) l) (refusal (valueChecks (lentTo x H) (s .desk) party node (lend (s .values) l) own))
           ∙ value-not-ten H b x (s .desk) f party node (lend (s .values) l) own (refl, tt);
     }
 call-stepped H b x (leave party list) s f =
@@ -233,10 +231,10 @@ call-stepped H b x (leave party list) s f =
       fine = record {
         shaped = leave-shaped (lentTo x H) (s .desk) party list (f .shaped);
         sound = kept H b x (s .desk) f _
-            (λ e. leave-same (s .desk) party list 1 _ (short-first (lentTo x H) (s .desk) party (ltb (length list) 32) own e))
+            (λ e. leave-same (s .desk) 1 party list _ (short-first (lentTo x H) (s .desk) party (ltb (length list) 32) own e))
             (leave-sound (lentTo x H) (s .desk) party list (f .shaped));
       };
-      event = leave-number (s .desk) party list _ 10 (leaveRefusal (lentTo x H) (s .desk) party list)
+      event = leave-number (s .desk) 10 party list _ (leaveRefusal (lentTo x H) (s .desk) party list)
           ∙ not-ten H b x (s .desk) f party (ltb (length list) 32) own (refl, tt);
     }
 

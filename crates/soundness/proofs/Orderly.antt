@@ -1,15 +1,15 @@
 -- A sound desk said of its entries and of the arrival list as a list, and that this is the same. Assumes nothing.
 use mathlib.Core.Path.{_≡_, refl, sym, ap, _∙_, subst}
-use mathlib.Core.Logic.{_⊎_, inl, inr, _≢_}
-use mathlib.Core.List.{List, [], _∷_, _++_}
+use mathlib.Core.Logic.{_≢_}
+use mathlib.Core.List.{List, _++_}
 use mathlib.Core.Bool.{Bool, true, false, not, _&&_, _||_}
-use Prim.Native.Nat.{ℕ, zero, suc, _+_, _≤_, _<_}
+use Prim.Native.Nat.{ℕ, _≤_, _<_}
 use native.Mathlib.Omega.{arith}
 use lib.Dec.{eqb, leb, ltb}
 use lib.ListN.{length, getD, take, replicate, length-take, length-append, length-replicate, List·getD-append}
 use lib.Seq.{length-take-le, getD-take, take-take, take-append-le}
 use borrow.Author.Tests.{eqb-true, eqb-false, eq-eqb, ne-eqb, leb-true, le-leb, ltb-true, lt-ltb, not-true}
-use Rattle.intervals.specs.Lists.{allBelow, anyBelow}
+use Rattle.intervals.specs.Lists.{allBelow}
 use Rattle.intervals.proofs.Bools.{bool, and-left, and-right, and-both}
 use Rattle.intervals.proofs.Bounded.{all-at, all-of, any-stop}
 use Rattle.intervals.proofs.Members.{In}
@@ -20,7 +20,7 @@ use Rattle.desk.specs.declared.Stage.the-variants.{Out, Waiting, Holding}
 use Rattle.desk.specs.declared.Entry.{Entry}
 use Rattle.desk.specs.declared.Desk.{Desk}
 use Rattle.desk.specs.Locks.{conflict, realInterval}
-use Rattle.desk.specs.Desks.{Hierarchy, stageIn, stageAt, isWaiting, listedAt, queueOf, queuePlaces, againstHolder}
+use Rattle.desk.specs.Desks.{Hierarchy, stageIn, stageAt, isWaiting, listedAt, queueOf, queuePlaces}
 use Rattle.desk.specs.Sound.{listsParties, listsOnce, isListed, listsWaiting, ofLock, intervalsReal, coverRight, coversRight, holdersConflict, holdersApart, heldUp, waitersHeldUp, soundDesk}
 use Rattle.history.proofs.Facts.{holders-apart, holder-below}
 
@@ -79,6 +79,7 @@ clauses H d s =
       held = and-right (listsParties d && listsOnce d && listsWaiting d && intervalsReal d && coversRight H d && holdersApart d) (waitersHeldUp d) s;
     }
 
+-- and back
 from-clauses : (H : Hierarchy) (d : Desk) → Clauses H d → soundDesk H d ≡ true
 unfolding soundDesk
 from-clauses H d c =
@@ -111,6 +112,7 @@ places-read d list e w few =
       front = λ i h. rw e (take-take i 32 (list ++ replicate 32 0) (omega arith) ∙ take-append-le i list (replicate 32 0) (omega arith));
     }
 
+-- it has 32 places
 pub places-long : (list : List ℕ) → length (queuePlaces list) ≡ 32
 places-long list = omega (arith, length-take 32 (list ++ replicate 32 0), length-append list (replicate {A = ℕ} 32 0), length-replicate {A = ℕ} 32 0)
 
@@ -164,6 +166,7 @@ module _ (H : Hierarchy) (d : Desk) (list : List ℕ) (r : Reads d list) where
           let k : i < length list = omega (arith, r .count) in
           subst (λ (x : ℕ). In x list) (sym (r .at i k) ∙ eqb-true (listedAt d i) p e) (place-in list i k)
 
+  -- its last clause
   pub sound-held : soundDesk H d ≡ true → HeldUp (d .entries) list
   sound-held s i h = rw (r .front i h) at (here (λ i p. heldUp (d .entries) (take i (d .queue)) (stageAt d p)) (clauses H d s .held) i h)
 
