@@ -31,7 +31,7 @@ stage-same es p x h = ap (λ (e : Entry). e .stage) (getD-set-same es p (entryOf
 pub stage-other : (es : List Entry) (p q : ℕ) (x : Stage) → q ≢ p → stageIn (set es p (entryOf x)) q ≡ stageIn es q
 stage-other es p q x ne = ap (λ (e : Entry). e .stage) (getD-set-other es p q (entryOf x) (entryOf Out) ne)
 
-pub stage-any : (f : Stage → Bool) {b : Bool} (es : List Entry) (p q : ℕ) (x : Stage) → f x ≡ b → f (stageIn es q) ≡ b → f (stageIn (set es p (entryOf x)) q) ≡ b
+stage-any : (f : Stage → Bool) {b : Bool} (es : List Entry) (p q : ℕ) (x : Stage) → f x ≡ b → f (stageIn es q) ≡ b → f (stageIn (set es p (entryOf x)) q) ≡ b
 stage-any f [] p q x h k = k
 stage-any f (e ∷ es) zero zero x h k = h
 stage-any f (e ∷ es) zero (suc q) x h k = k
