@@ -9,3 +9,4 @@ pub mod Legals
 pub mod Covers
 pub mod Loops
 pub mod Bounded
+pub mod Distinct

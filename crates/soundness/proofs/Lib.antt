@@ -1,2 +1,7 @@
--- What holds of every step: Laws has the theorems.
+-- What holds of every step. Theorems: Laws (a refused step changes nothing), Kept (a sound desk stays sound), NeverTen (no step of a list is refused with 10).
+-- Orderly and Changes have what Kept rests on.
 pub mod Laws
+pub mod Orderly
+pub mod Changes
+pub mod Kept
+pub mod NeverTen

@@ -1,0 +1,255 @@
+-- THEOREMS: every step, from a sound desk, hands back a sound desk, with any hierarchy and any arguments whatever. Assumes nothing.
+use mathlib.Core.Path.{_≡_, refl, sym, ap, _∙_}
+use mathlib.Core.Logic.{_≢_}
+use mathlib.Core.List.{List, [], _∷_, _++_, append-nil}
+use mathlib.Core.Bool.{Bool, true, false, not, _||_, or-true}
+use mathlib.Core.Option.{Option, none, some}
+use Prim.Native.Nat.{ℕ, _<_}
+use native.Mathlib.Omega.{arith}
+use lib.Dec.{eqb, ltb}
+use lib.ListN.{length, set, take, length-set, length-append}
+use lib.Seq.{append-snoc}
+use borrow.Author.Tests.{eq-eqb, ltb-false, lt-ltb, not-true, not-false}
+use Rattle.intervals.specs.Lists.{anyBelow, keep}
+use Rattle.intervals.specs.Answer.{Check, _when_}
+use Rattle.intervals.specs.Hierarchy.{edgesOf, edgeWrong}
+use Rattle.intervals.specs.Cover.{callInterval, coverOfInterval}
+use Rattle.intervals.proofs.Bools.{bool, not-both, or-left}
+use Rattle.intervals.proofs.Refusals.{NoneHolds, refusal-none}
+use Rattle.intervals.proofs.Bounded.{any-stop, any-none, none-of}
+use Rattle.intervals.proofs.Members.{In}
+use Rattle.intervals.proofs.Distinct.{any-some, any-in, in-front, in-between, distinct-between}
+use Rattle.intervals.proofs.Legals.{no-edge, right-edge, right-size}
+use Rattle.intervals.proofs.Covers.{search-is}
+use Rattle.desk.specs.declared.Mode.{Mode}
+use Rattle.desk.specs.declared.Lock.{Lock}
+use Rattle.desk.specs.declared.Stage.{Stage}
+use Rattle.desk.specs.declared.Stage.the-variants.{Out, Waiting, Holding}
+use Rattle.desk.specs.declared.Entry.{Entry}
+use Rattle.desk.specs.declared.Desk.{Desk}
+use Rattle.desk.specs.Locks.{realInterval}
+use Rattle.desk.specs.Desks.{Hierarchy, lowIn, highIn, coverIn, entryOf, stageIn, stageAt, isOut, isWaiting, queueOf, freshDesk, againstHolder, againstWaiter, meetsHolder, meetsWaiter}
+use Rattle.desk.specs.Sound.{coverRight, soundDesk}
+use Rattle.desk.specs.Steps.{intervalWrong, stepChecks, lockOn, free, grantTo, queueLast, namesWrong, enterRefusal, enterIf, enterUnless, enterStep, getStep, putStep, Sweep, offerIf, offerTo, offer, sweep, afterLeaving, leaveWith, leaveRefusal, leaveUnless, leaveStep}
+use Rattle.history.proofs.Facts.{sweep-length}
+use Rattle.soundness.proofs.Laws.{unchanged-get, unchanged-put}
+use Rattle.soundness.proofs.Orderly.{Shaped, Reads, Orderly, HeldUp, sound-reads, places-long, sound-orderly, sound-held, made-sound}
+use Rattle.soundness.proofs.Changes.{stage-same, stage-other, waits-apart, called, ended, admitted, granted, still-meets, up-set, up-last}
+
+-- SHAPE: a fresh desk has it
+pub fresh-shaped : Shaped freshDesk
+fresh-shaped = record { entries = refl; queue = refl }
+
+-- enter keeps it
+pub enter-shaped : (H : Hierarchy) (d : Desk) (party : ℕ) (mode : Mode) (names : List ℕ) (nameCount : ℕ) → Shaped d
+    → Shaped ((enterStep H d party mode names nameCount) .desk)
+unfolding enterStep
+enter-shaped H d party mode names nameCount shape = by (enterRefusal H d party names nameCount)
+  where
+    l : Lock
+    l = lockOn H mode (coverIn H (take nameCount names))
+
+    test : (b : Bool) → Shaped ((enterIf b d party l) .desk)
+    test true = record { entries = length-set (d .entries) party (entryOf (Holding l)) ∙ shape .entries; queue = places-long (queueOf d) }
+    test false = record { entries = length-set (d .entries) party (entryOf (Waiting l)) ∙ shape .entries; queue = places-long (queueOf d ++ (party ∷ [])) }
+
+    by : (o : Option ℕ) → Shaped ((enterUnless o d party l) .desk)
+    by (some k) = shape
+    by none = test (free d l)
+
+-- get and put keep it
+pub get-shaped : (H : Hierarchy) (d : Desk) (party node : ℕ) (values : List ℕ) → Shaped d → Shaped ((getStep H d party node values) .desk)
+get-shaped H d party node values shape = rw (unchanged-get H d party node values) shape
+
+pub put-shaped : (H : Hierarchy) (d : Desk) (party node value : ℕ) (values : List ℕ) → Shaped d → Shaped ((putStep H d party node value values) .desk)
+put-shaped H d party node value values shape = rw (unchanged-put H d party node value values) shape
+
+-- leave keeps it
+pub leave-shaped : (H : Hierarchy) (d : Desk) (party : ℕ) (list : List ℕ) → Shaped d → Shaped ((leaveStep H d party list) .desk)
+unfolding leaveStep
+leave-shaped H d party list shape = by (leaveRefusal H d party list)
+  where
+    by : (o : Option ℕ) → Shaped ((leaveUnless o d party list) .desk)
+    by (some k) = shape
+    by none = record {
+      entries =
+          sweep-length (keep (λ other. not (eqb other party)) (queueOf d)) (record { entries = set (d .entries) party (entryOf Out); stay = []; granted = [] })
+          ∙ length-set (d .entries) party (entryOf Out)
+          ∙ shape .entries;
+      queue = places-long ((afterLeaving d party) .stay);
+    }
+
+-- WHAT AN UNREFUSED STEP KNOWS of its tables and its party
+record Checked (H : Hierarchy) (party : ℕ) : Type 0 where
+  cover-below : (names : List ℕ) → coverIn H names < H .n
+  real : (node : ℕ) → node < H .n → realInterval (lowIn H node) (highIn H node) ≡ true
+  party-below : party < 32
+
+-- covers are nodes, since the search only goes along edges
+checked : (H : Hierarchy) (d : Desk) (party : ℕ) (short : Bool) (own : List Check) → NoneHolds (stepChecks H d party short own) → Checked H party
+unfolding coverOfInterval
+checked H d party short own f = record {
+  cover-below = λ names.
+      search-is (H .intervals) es (callInterval (H .intervals) names) (λ (r : ℕ). r < H .n)
+      (λ present child e around p. right-edge (H .n) present child (no-edge (edgeWrong (H .n)) (f .1 .1 .1 .0) e) .child-below)
+      _ 0 (right-size (H .n) (f .1 .0) .0);
+  real = λ node h. real node (any-none (intervalWrong H) (H .n) node (or-left (anyBelow (H .n) (intervalWrong H)) (not (soundDesk H d)) (f .1 .1 .1 .1 .0)) h);
+  party-below = let k = ltb-false 31 party (f .1 .1 .1 .1 .1 .0) in omega arith;
+}
+  where
+    es : List ℕ
+    es = edgesOf (H .edges) (H .edgeCount)
+
+    real : (node : ℕ) → intervalWrong H node ≡ false → realInterval (lowIn H node) (highIn H node) ≡ true
+    real node w = not-false (realInterval (lowIn H node) (highIn H node))
+        (or-left (not (realInterval (lowIn H node) (highIn H node))) (ltb (lowIn H node) (lowIn H 0))
+        (or-left (not (realInterval (lowIn H node) (highIn H node)) || ltb (lowIn H node) (lowIn H 0)) (ltb (highIn H 0) (highIn H node)) w))
+
+-- ENTER, of a party that is out, with a lock whose interval and cover are right
+is-out : (x : Stage) → isOut x ≡ true → x ≡ Out
+is-out Out e = refl
+is-out (Waiting l) e = not-both true refl (sym e)
+is-out (Holding l) e = not-both true refl (sym e)
+
+against-waits : (l : Lock) (x : Stage) → againstWaiter l x ≡ true → isWaiting x ≡ true
+against-waits l Out t = t
+against-waits l (Waiting w) t = refl
+against-waits l (Holding h) t = t
+
+module _ (H : Hierarchy) (d : Desk) (party : ℕ) (l : Lock) (shape : Shaped d) (sound : soundDesk H d ≡ true) (below : party < 32) (out : stageAt d party ≡ Out)
+    (real : realInterval (l .low) (l .high) ≡ true) (right : coverRight H l ≡ true) where
+  reads : Reads d (queueOf d)
+  reads = sound-reads H d shape sound
+
+  orderly : Orderly H (d .entries) (queueOf d)
+  orderly = sound-orderly H d (queueOf d) reads (shape .entries) sound
+
+  -- no holder is the party
+  holder-apart : (q : ℕ) (g : Lock) → stageAt d q ≡ Holding g → q ≢ party
+  holder-apart q g e c = let s : stageAt d party ≡ Holding g = rw c at e in not-both true refl (cc)
+
+  -- the waiters stay held up, whatever the party becomes
+  up : (x : Stage) → HeldUp (set (d .entries) party (entryOf x)) (queueOf d)
+  up x = up-set (d .entries) (queueOf d) party x (λ g e. holder-apart party g e refl) (λ m. waits-apart orderly party party (ap isWaiting out) m refl)
+      (sound-held H d (queueOf d) reads sound)
+
+  -- granted where it conflicts with no holder and no waiter
+  grant-sound : free d l ≡ true → soundDesk H (grantTo d party l) ≡ true
+  grant-sound f =
+      made-sound H (grantTo d party l) (queueOf d) refl (reads .count)
+      (admitted H (d .entries) (queueOf d) party l orderly below out real right
+      (none-of (λ other. againstHolder l (stageAt d other)) 32 (λ q h. or-left (againstHolder l (stageAt d q)) (againstWaiter l (stageAt d q))
+      (any-none (λ other. againstHolder l (stageAt d other) || againstWaiter l (stageAt d other)) 32 q (not-true _ f) h))))
+      (up (Holding l))
+
+  -- it waits where it conflicts with one, and that one holds it up
+  queue-sound : free d l ≡ false → soundDesk H (queueLast d party l) ≡ true
+  queue-sound f =
+      made-sound H (queueLast d party l) (queueOf d ++ (party ∷ [])) refl (omega (arith, reads .count, length-append (queueOf d) (party ∷ [])))
+      (called H (d .entries) (queueOf d) party l orderly below out real right)
+      (up-last fs (queueOf d) party (up (Waiting l)) (rw (stage-same (d .entries) party (Waiting l) (omega (arith, shape .entries)))
+      (by (any-some (λ other. againstHolder l (stageAt d other) || againstWaiter l (stageAt d other)) 32 (not-false _ f)))))
+    where
+      fs : List Entry
+      fs = set (d .entries) party (entryOf (Waiting l))
+
+      waiter : (q : ℕ) → q < 32 → againstWaiter l (stageAt d q) ≡ true → meetsWaiter fs (queueOf d) l ≡ true
+      waiter q h t =
+          let m : In q (queueOf d) = orderly .listed q h (against-waits l (stageAt d q) t) in
+          any-in (λ other. againstWaiter l (stageIn fs other)) m
+          (ap (againstWaiter l) (stage-other (d .entries) party q (Waiting l) (waits-apart orderly party q (ap isWaiting out) m)) ∙ t)
+
+      by : (q : ℕ) × (q < 32) × ((againstHolder l (stageAt d q) || againstWaiter l (stageAt d q)) ≡ true) → (meetsHolder fs l || meetsWaiter fs (queueOf d) l) ≡ true
+      by (q, h, t) =
+          bool (againstHolder l (stageAt d q))
+          (λ e. rw (still-meets (d .entries) fs l (λ r g k. stage-other (d .entries) party r (Waiting l) (holder-apart r g k) ∙ k)
+          (any-stop (λ other. againstHolder l (stageAt d other)) 32 q h e)))
+          (λ e. rw (waiter q h (rw e at t)) (or-true (meetsHolder fs l)))
+
+  enter-if : (b : Bool) → free d l ≡ b → soundDesk H ((enterIf b d party l) .desk) ≡ true
+  enter-if true f = grant-sound f
+  enter-if false f = queue-sound f
+
+-- ENTER hands back a sound desk
+pub enter-sound : (H : Hierarchy) (d : Desk) (party : ℕ) (mode : Mode) (names : List ℕ) (nameCount : ℕ) → Shaped d → soundDesk H d ≡ true
+    → soundDesk H ((enterStep H d party mode names nameCount) .desk) ≡ true
+unfolding enterStep
+enter-sound H d party mode names nameCount shape sound = by (enterRefusal H d party names nameCount) refl
+  where
+    cover : ℕ
+    cover = coverIn H (take nameCount names)
+
+    by : (o : Option ℕ) → enterRefusal H d party names nameCount ≡ o → soundDesk H ((enterUnless o d party (lockOn H mode cover)) .desk) ≡ true
+    by (some k) e = sound
+    by none e =
+        let own : List Check = 12 when not (isOut (stageAt d party)) ∷ 15 when namesWrong (H .n) names nameCount ∷ [] in
+        let f = refusal-none (stepChecks H d party (ltb (length names) nameCount) own) e in
+        let c = checked H d party (ltb (length names) nameCount) own f in
+        let b : cover < H .n = c .cover-below (take nameCount names) in
+        enter-if H d party (lockOn H mode cover) shape sound (c .party-below) (is-out (stageAt d party) (not-false (isOut (stageAt d party)) (f .1 .1 .1 .1 .1 .1 .0)))
+        (c .real cover b)
+        (rw (lt-ltb cover (H .n) b, eq-eqb (lowIn H cover) (lowIn H cover) refl, eq-eqb (highIn H cover) (highIn H cover) refl))
+        (free d (lockOn H mode cover)) refl
+
+-- GET hands back the desk given
+pub get-sound : (H : Hierarchy) (d : Desk) (party node : ℕ) (values : List ℕ) → soundDesk H d ≡ true → soundDesk H ((getStep H d party node values) .desk) ≡ true
+get-sound H d party node values sound = rw (unchanged-get H d party node values) sound
+
+-- and so does put
+pub put-sound : (H : Hierarchy) (d : Desk) (party node value : ℕ) (values : List ℕ) → soundDesk H d ≡ true
+    → soundDesk H ((putStep H d party node value values) .desk) ≡ true
+put-sound H d party node value values sound = rw (unchanged-put H d party node value values) sound
+
+-- LEAVE'S PASS: the parties that stay and those to come are the list, and those that stay are held up
+record Going (H : Hierarchy) (s : Sweep) (after : List ℕ) : Type 0 where
+  orderly : Orderly H (s .entries) (s .stay ++ after)
+  held : HeldUp (s .entries) (s .stay)
+
+-- one waiter is taken
+offer-going : (H : Hierarchy) (s : Sweep) (p : ℕ) (after : List ℕ) → Going H s (p ∷ after) → Going H (offer s p) after
+unfolding offer
+offer-going H s p after g = by (stageIn (s .entries) p) refl
+  where
+    waits : isWaiting (stageIn (s .entries) p) ≡ true
+    waits = g .orderly .waits p (in-between p (s .stay) after)
+
+    test : (l : Lock) (b : Bool) → stageIn (s .entries) p ≡ Waiting l → (meetsHolder (s .entries) l || meetsWaiter (s .entries) (s .stay) l) ≡ b
+        → Going H (offerIf (not b) s p l) after
+    test l true e t = record {
+      orderly = rw append-snoc (g .orderly);
+      held = up-last (s .entries) (s .stay) p (g .held) (rw e t);
+    }
+    test l false e t = record {
+      orderly = granted H (s .entries) (s .stay) after p l (g .orderly) e (or-left (meetsHolder (s .entries) l) (meetsWaiter (s .entries) (s .stay) l) t);
+      held = up-set (s .entries) (s .stay) p (Holding l) (λ h k. not-both true refl (cc))
+          (λ m. distinct-between (s .stay) after p (g .orderly .once) .1 (in-front (s .stay) after m)) (g .held);
+    }
+
+    by : (x : Stage) → stageIn (s .entries) p ≡ x → Going H (offerTo s p x) after
+    by Out e = not-both true refl (sym (rw e at waits))
+    by (Waiting l) e = test l (meetsHolder (s .entries) l || meetsWaiter (s .entries) (s .stay) l) e refl
+    by (Holding l) e = not-both true refl (sym (rw e at waits))
+
+-- all are
+sweep-going : (H : Hierarchy) (after : List ℕ) (s : Sweep) → Going H s after → Going H (sweep s after) []
+unfolding sweep
+sweep-going H [] s g = g
+sweep-going H (p ∷ after) s g = sweep-going H after (offer s p) (offer-going H s p after g)
+
+-- LEAVE hands back a sound desk, its pass included
+pub leave-sound : (H : Hierarchy) (d : Desk) (party : ℕ) (list : List ℕ) → Shaped d → soundDesk H d ≡ true → soundDesk H ((leaveStep H d party list) .desk) ≡ true
+unfolding leaveStep
+leave-sound H d party list shape sound = by (leaveRefusal H d party list) refl
+  where
+    by : (o : Option ℕ) → leaveRefusal H d party list ≡ o → soundDesk H ((leaveUnless o d party list) .desk) ≡ true
+    by (some k) e = sound
+    by none e =
+        let own : List Check = 13 when isOut (stageAt d party) ∷ [] in
+        let c = checked H d party (ltb (length list) 32) own (refusal-none (stepChecks H d party (ltb (length list) 32) own) e) in
+        let g : Going H (afterLeaving d party) [] =
+        sweep-going H (keep (λ other. not (eqb other party)) (queueOf d)) (record { entries = set (d .entries) party (entryOf Out); stay = []; granted = [] })
+        (record {
+          orderly = ended H (d .entries) (queueOf d) party (sound-orderly H d (queueOf d) (sound-reads H d shape sound) (shape .entries) sound) (c .party-below);
+          held = λ i h. absurd (omega arith);
+        }) in
+        made-sound H ((leaveWith (afterLeaving d party) d list) .desk) (afterLeaving d party .stay) refl refl (rw append-nil at (g .orderly)) (g .held)
