@@ -1,15 +1,34 @@
--- Laws of entries and of the arrival list that functions' proofs use. Assumes nothing.
-use mathlib.Core.Path.{_≡_, refl, sym, ap, _∙_}
-use mathlib.Core.List.{List, [], _∷_, _++_}
-use mathlib.Core.Bool.{Bool, true, false, _||_, not}
-use Prim.Native.Nat.{ℕ, zero, suc, _+_, _≤_, _<_}
+-- Laws of entries and of holds that functions' proofs use. Assumes nothing.
+use mathlib.Core.Path.{_≡_, sym, ap, _∙_}
+use mathlib.Core.List.{List}
+use mathlib.Core.Bool.{Bool, true, _&&_}
+use Prim.Native.Nat.{ℕ, _≤_}
 use native.Mathlib.Omega.{arith}
-use lib.ListN.{length, getD, take, drop, set, replicate, List·getD-eq-default}
-use Rattle.desk.specs.declared.Stage.{Stage}
-use Rattle.desk.specs.declared.Stage.the-variants.{Out, Waiting, Holding}
+use lib.Dec.{leb}
+use lib.ListN.{length, List·getD-eq-default}
+use borrow.Author.Tests.{leb-true}
+use Rattle.intervals.specs.Lists.{one}
+use Rattle.intervals.proofs.Bools.{and-left, and-right}
+use Rattle.desk.specs.declared.Stage.the-variants.{Out}
+use Rattle.desk.specs.declared.Lock.{Lock}
 use Rattle.desk.specs.declared.Entry.{Entry}
+use Rattle.desk.specs.Locks.{conflict, realInterval, isMode, isHold, lockNumbered, conflictCall}
 use Rattle.desk.specs.Desks.{entryOf, stageIn}
 
 -- past the entries everybody is out
 pub past-out : (entries : List Entry) (party : ℕ) → length entries ≤ party → Out ≡ stageIn entries party
 past-out entries party h = ap (λ (e : Entry). e .stage) (sym (List·getD-eq-default entries (entryOf Out) h))
+
+-- the bounds of a hold of the conflict call fit a lock
+pub hold-bounds : (m low high : ℕ) → isHold m low high ≡ true → (low ≤ 256) × (high ≤ 256)
+hold-bounds m low high e =
+    let real = and-right (isMode m) (realInterval low high) e in
+    let top : high ≤ 256 = leb-true high 256 (and-right (leb 1 low && leb low high) (leb high 256) real) in
+    let ordered : low ≤ high = leb-true low high (and-right (leb 1 low) (leb low high) (and-left (leb 1 low && leb low high) (leb high 256) real)) in
+    (omega arith, top)
+
+-- the answer of the conflict call on two holds
+pub call-answer : (m low high m′ low′ high′ : ℕ) (a b : Lock) (x : Bool) → isHold m low high ≡ true → isHold m′ low′ high′ ≡ true
+    → a ≡ lockNumbered m low high → b ≡ lockNumbered m′ low′ high′ → conflict a b ≡ x → one x ≡ conflictCall m low high m′ low′ high′
+call-answer m low high m′ low′ high′ a b x p q ea eb e =
+    sym (rw (p, q) (ap one (sym (ap (λ (t : Lock). conflict t b) ea ∙ ap (conflict (lockNumbered m low high)) eb) ∙ e)))

@@ -37,9 +37,13 @@ modeNumbered m = cond (eqb m 1) Reading Writing
 abbrev pub lockNumbered : ℕ → ℕ → ℕ → Lock
 lockNumbered m low high = record { mode = modeNumbered m; cover = 0; low = low; high = high }
 
+-- a mode of 1 or 2, and an interval in 1 to 256 with low at most high
+abbrev pub isHold : ℕ → ℕ → ℕ → Bool
+isHold m low high = isMode m && realInterval low high
+
 -- 10 for a mode other than 1 or 2 or an interval outside 1 to 256 or with low above high; 0 for no, 1 for yes
 abbrev pub conflictCall : ℕ → ℕ → ℕ → ℕ → ℕ → ℕ → ℕ
 conflictCall m low high m′ low′ high′ =
-    cond (isMode m && realInterval low high && isMode m′ && realInterval low′ high′)
+    cond (isHold m low high && isHold m′ low′ high′)
     (one (conflict (lockNumbered m low high) (lockNumbered m′ low′ high′)))
     10

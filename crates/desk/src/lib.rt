@@ -1,12 +1,12 @@
 // The desk: who may be in which nodes. Modes, locks, the desk, its four steps, and the conflict call for the C host.
 ghost use mathlib.Core.Path.{_≡_};
-ghost use mathlib.Core.Bool.{_||_, not};
+ghost use mathlib.Core.Bool.{true, _||_, not};
 ghost use lib.Dec.{eqb, ltb};
 ghost use Rattle.intervals.specs.Lists.{allBelow};
 ghost use mathlib.Core.List.{[]};
 ghost use Prim.Native.Nat.{ℕ, _+_, _*_, _≤_, _<_};
 ghost use lib.ListN.{length, take};
-ghost use Rattle.desk.specs.Locks.{bothReading, share, conflict as conflicting, realInterval, isMode, modeNumbered, conflictCall};
+ghost use Rattle.desk.specs.Locks.{bothReading, share, conflict as conflicting, realInterval, isMode, isHold, modeNumbered, lockNumbered, conflictCall};
 ghost use Rattle.desk.specs.Desks.{stageAt, listedAt, queueOf, queuePlaces, freshDesk, isOut, isWaiting, againstHolder, againstWaiter, meetsHolder, meetsWaiter};
 ghost use Rattle.desk.specs.Sound.{listsParties, listsOnce, isListed, listsWaiting, ofLock, lockReal, intervalsReal, holdersConflict, holdersApart, heldUp, waitersHeldUp};
 ghost use Rattle.desk.specs.Steps.{free, countGrants};
@@ -661,7 +661,7 @@ fn hold(s: Stage) -> Stage
 }
 
 // Whether an interval lies in 1 to 256, low at most high.
-fn real_interval(low: u16, high: u16) -> bool
+fn real_interval(low: u32, high: u32) -> bool
     ensures { λ r. ⌜ r ≡ realInterval low high ⌝ }
 {
     if low < 1 {
@@ -677,7 +677,7 @@ fn real_interval(low: u16, high: u16) -> bool
 fn lock_real(l: Lock) -> bool
     ensures { λ r. ⌜ r ≡ lockReal l ⌝ }
 {
-    real_interval(l.low, l.high)
+    real_interval(l.low as u32, l.high as u32)
 }
 
 // Whether what a party at this stage holds or waits for has a real interval.
@@ -700,4 +700,74 @@ fn holders_conflict(s: Stage, t: Stage) -> bool
         Stage::Waiting(_) => false,
         Stage::Holding(l) => against_holder(l, t),
     }
+}
+
+// The mode of a number: 1 reading, any other writing.
+fn mode_numbered(m: u32) -> Mode
+    ensures { λ r. ⌜ r ≡ modeNumbered m ⌝ }
+{
+    if m == 1 {
+        return Mode::Reading;
+    }
+    Mode::Writing
+}
+
+// Whether a number is a mode.
+fn is_mode(m: u32) -> bool
+    ensures { λ r. ⌜ r ≡ isMode m ⌝ }
+{
+    if m == 1 {
+        return true;
+    }
+    m == 2
+}
+
+// Whether mode, low and high are those of a hold.
+fn is_hold(m: u32, low: u32, high: u32) -> bool
+    ensures { λ r. ⌜ r ≡ isHold m low high ⌝ }
+{
+    if !is_mode(m) {
+        return false;
+    }
+    real_interval(low, high)
+}
+
+// The hold of mode, low and high.
+fn lock_numbered(m: u32, low: u32, high: u32) -> Lock
+    requires { ⌜ isHold m low high ≡ true ⌝ }
+    ensures { λ r. ⌜ r ≡ lockNumbered m low high ⌝ }
+{
+    let mode = mode_numbered(m);
+    Lock {
+        mode,
+        cover: 0,
+        low: low as u16,
+        high: high as u16,
+    }
+}
+
+// Whether two holds conflict, for the C host: 0 no, 1 yes, 10 for what is no hold.
+#[no_mangle]
+pub extern "C" fn hold_conflict(
+    mode: u32,
+    low: u32,
+    high: u32,
+    mode2: u32,
+    low2: u32,
+    high2: u32,
+) -> u32
+    ensures { λ r. ⌜ r ≡ conflictCall mode low high mode2 low2 high2 ⌝ }
+{
+    if !is_hold(mode, low, high) {
+        return 10;
+    }
+    if !is_hold(mode2, low2, high2) {
+        return 10;
+    }
+    let a = lock_numbered(mode, low, high);
+    let b = lock_numbered(mode2, low2, high2);
+    if conflict(a, b) {
+        return 1;
+    }
+    0
 }
