@@ -1,0 +1,262 @@
+"""A plain model of the record desk, written from the paper (document 01), to compare the listing program with.
+
+It shares no code with the project: sets for reach, Python integers for values, a list of parties for the arrival order.
+`listing(data)` gives the lines that the listing program must print for the bytes of one file.
+"""
+
+
+class Refusal(Exception):
+    def __init__(self, number):
+        super().__init__(number)
+        self.number = number
+
+
+# ---- blocks of 512 bytes
+
+def check(data):
+    """Fletcher-32; an odd last byte is followed by a zero."""
+    if len(data) % 2:
+        data = data + b"\0"
+    a = b = 0
+    for low, high in zip(data[::2], data[1::2]):
+        a = (a + low + 256 * high) % 65535
+        b = (b + a) % 65535
+    return a + 65536 * b
+
+
+# kind -> bytes that carry fields (an enter's depends on its name count)
+FIELDS = {1: {1, 2}, 2: {1, 2}, 4: {1, 2}, 5: {1, 2, 4, 5, 6, 7, 8, 9, 10, 11}, 6: {1}}
+
+
+def record_wrong(r):
+    kind = r[0]
+    if kind == 3:
+        if r[2] not in (1, 2) or not 1 <= r[3] <= 8:
+            return True
+        used = {1, 2, 3} | set(range(4, 4 + r[3]))
+    elif kind in FIELDS:
+        used = FIELDS[kind]
+    else:
+        return True
+    return any(r[k] for k in range(1, 16) if k not in used)
+
+
+def order_wrong(kinds_before, kind):
+    """One size record comes first, then all edges, then steps."""
+    if not kinds_before:
+        return kind != 1
+    if kind == 1:
+        return True
+    return kind == 2 and any(k > 2 for k in kinds_before)
+
+
+def read_file(data):
+    if len(data) % 512 or not 1 <= len(data) // 512 <= 128:
+        raise Refusal(2)
+    blocks = [data[i:i + 512] for i in range(0, len(data), 512)]
+    records, kinds = [], []
+    for i, block in enumerate(blocks):
+        if check(block[:508]) != int.from_bytes(block[508:512], "little"):
+            raise Refusal(3)
+        count = int.from_bytes(block[4:6], "little")
+        last = i == len(blocks) - 1
+        if int.from_bytes(block[:4], "little") != i or block[6] or block[7]:
+            raise Refusal(4)
+        if not 1 <= count <= 31 or (not last and count != 31):
+            raise Refusal(4)
+        if any(block[8 + 16 * count:508]):
+            raise Refusal(4)
+        for k in range(count):
+            r = block[8 + 16 * k:24 + 16 * k]
+            if record_wrong(r) or order_wrong(kinds, r[0]):
+                raise Refusal(4)
+            kinds.append(r[0])
+            records.append(r)
+    return records
+
+
+# ---- the hierarchy
+
+class Hierarchy:
+    def __init__(self, n, edges):
+        if not 1 <= n <= 256:
+            raise Refusal(5)
+        if len(edges) > 1024:
+            raise Refusal(6)
+        if any(p >= n or c >= n or c == 0 or p == c for p, c in edges):
+            raise Refusal(7)
+        if len(set(edges)) != len(edges):
+            raise Refusal(8)
+        self.n = n
+        self.children = {r: [c for p, c in edges if p == r] for r in range(n)}
+        if len(self.reach(0)) != n:
+            raise Refusal(9)
+        number = self.numbering()
+        self.low, self.high = [], []
+        for r in range(n):
+            numbers = [number[x] for x in self.reach(r) if x in number]
+            self.low.append(min(numbers))
+            self.high.append(max(numbers))
+
+    def reach(self, r):
+        seen, todo = {r}, [r]
+        while todo:
+            for c in self.children[todo.pop()]:
+                if c not in seen:
+                    seen.add(c)
+                    todo.append(c)
+        return seen
+
+    def numbering(self):
+        """A walk from record 0, by an explicit stack: a record and the children still to be taken."""
+        number, opened, closed = {}, {0}, set()
+        stack = [(0, iter(self.children[0]))]
+        if not self.children[0]:
+            number[0] = 1
+        while stack:
+            r, rest = stack[-1]
+            c = next(rest, None)
+            if c is None:
+                stack.pop()
+                opened.discard(r)
+                closed.add(r)
+            elif c in closed:
+                pass
+            elif c in opened:
+                if c not in number:
+                    number[c] = len(number) + 1
+            else:
+                opened.add(c)
+                if not self.children[c]:
+                    number[c] = len(number) + 1
+                stack.append((c, iter(self.children[c])))
+        return number
+
+    def contains(self, r, low, high):
+        return self.low[r] <= low and high <= self.high[r]
+
+    def cover(self, names):
+        low, high = min(self.low[x] for x in names), max(self.high[x] for x in names)
+        present = 0
+        while True:
+            width = self.high[present] - self.low[present]
+            for c in self.children[present]:
+                if self.contains(c, low, high) and self.high[c] - self.low[c] < width:
+                    present = c
+                    break
+            else:
+                return present
+
+
+# ---- visits
+
+READING, WRITING = 1, 2
+
+
+class Desk:
+    def __init__(self, h):
+        self.h = h
+        self.holds = {}
+        self.calls = {}
+        self.arrival = []
+        self.grants = 0
+        self.values = [0] * h.n
+
+    def conflict(self, a, b):
+        (mode_a, cover_a), (mode_b, cover_b) = a, b
+        apart = self.h.high[cover_a] < self.h.low[cover_b] or self.h.high[cover_b] < self.h.low[cover_a]
+        return not apart and not mode_a == mode_b == READING
+
+    def grant(self, party, visit):
+        self.holds[party] = visit
+        self.grants = min(self.grants + 1, 4294967295)
+
+    def known(self, party):
+        if party > 31:
+            raise Refusal(11)
+
+    def enter(self, party, mode, names):
+        self.known(party)
+        if party in self.holds or party in self.calls:
+            raise Refusal(12)
+        if not 1 <= len(names) <= 8 or any(x >= self.h.n for x in names):
+            raise Refusal(15)
+        visit = (mode, self.h.cover(names))
+        if any(self.conflict(visit, v) for v in [*self.holds.values(), *self.calls.values()]):
+            self.calls[party] = visit
+            self.arrival.append(party)
+            return "waits"
+        self.grant(party, visit)
+        return f"granted {visit[1]}"
+
+    def inside(self, party, record):
+        self.known(party)
+        if party in self.calls:
+            raise Refusal(14)
+        if party not in self.holds:
+            raise Refusal(13)
+        if record >= self.h.n:
+            raise Refusal(15)
+        mode, cover = self.holds[party]
+        if not self.h.contains(cover, self.h.low[record], self.h.high[record]):
+            raise Refusal(16)
+        return mode
+
+    def get(self, party, record):
+        self.inside(party, record)
+        return f"value {self.values[record]}"
+
+    def put(self, party, record, value):
+        if self.inside(party, record) == READING:
+            raise Refusal(17)
+        self.values[record] = value
+        return "stored"
+
+    def leave(self, party):
+        self.known(party)
+        if party in self.holds:
+            del self.holds[party]
+        elif party in self.calls:
+            del self.calls[party]
+            self.arrival.remove(party)
+        else:
+            raise Refusal(13)
+        granted = []
+        for p in list(self.arrival):
+            visit = self.calls[p]
+            before = [self.calls[q] for q in self.arrival[:self.arrival.index(p)]]
+            if not any(self.conflict(visit, v) for v in [*self.holds.values(), *before]):
+                self.arrival.remove(p)
+                del self.calls[p]
+                self.grant(p, visit)
+                granted.append(p)
+        return " ".join(["left", *map(str, granted)])
+
+
+def perform(desk, r):
+    if r[0] == 3:
+        return desk.enter(r[1], r[2], list(r[4:4 + r[3]]))
+    if r[0] == 4:
+        return desk.get(r[1], r[2])
+    if r[0] == 5:
+        return desk.put(r[1], r[2], int.from_bytes(r[4:12], "little"))
+    return desk.leave(r[1])
+
+
+# ---- the listing
+
+def listing(data):
+    try:
+        records = read_file(data)
+        n = int.from_bytes(records[0][1:3], "little")
+        desk = Desk(Hierarchy(n, [(r[1], r[2]) for r in records if r[0] == 2]))
+    except Refusal as e:
+        return [f"refused {e.number}"]
+    lines = []
+    for k, r in enumerate((r for r in records if r[0] > 2), 1):
+        try:
+            lines.append(f"{k} {perform(desk, r)}")
+        except Refusal as e:
+            lines.append(f"{k} refused {e.number}")
+    lines.append(f"end {len(desk.holds)} {len(desk.calls)} {desk.grants}")
+    return lines
