@@ -10,3 +10,5 @@ pub mod Covers
 pub mod Loops
 pub mod Bounded
 pub mod Distinct
+pub mod EdgeLoops
+pub mod Searches

@@ -1,5 +1,19 @@
 // The hierarchy: refusals 5 to 9, the numbering walk, intervals, building, and the cover of a call.
 
+ghost use mathlib.Core.Path.{_≡_};
+ghost use mathlib.Core.Bool.{true, false, _&&_};
+ghost use Prim.Native.Nat.{ℕ, _+_, _*_, _/_, _<_, _≤_, min, max};
+ghost use lib.Dec.{eqb, ltb};
+ghost use lib.ListN.{length, getD, take, replicate};
+ghost use Rattle.intervals.specs.Lists.{any, over, Below};
+ghost use Rattle.intervals.specs.Answer.{refusal};
+ghost use Rattle.intervals.specs.Hierarchy.{edgesOf, children, someEdge, spread, reach, edgeWrong, edgeTwice, someUnreached, hierarchyChecks};
+ghost use Rattle.intervals.specs.Numbering.{at as walkAt, walk as walked, numbering};
+ghost use Rattle.intervals.specs.Intervals.{intervalTable};
+ghost use Rattle.intervals.specs.Build.{buildStep, buildMeaning};
+ghost use Rattle.intervals.specs.Cover.{intervalAt, callInterval, contains as containing, width as widthOf, firstWithin, stepOr, coverOfInterval, coverOf};
+ghost use Rattle.intervals.specs.Inner.{endsAt, Edges, repeats, Went, zeros, numberOf, Ready, Fresh, isBetter, improved, relax, Best, lows, highs, tableWeight, orMost, doubled, Writable};
+
 // The interval of a node or of a call, from its low to its high.
 pub struct Interval {
     pub low: u16,
@@ -10,4 +24,198 @@ pub struct Interval {
 pub enum BuildAnswer {
     Built,
     Refused(u8),
+}
+
+// The two ends of an edge.
+struct Ends {
+    parent: usize,
+    child: usize,
+}
+
+// The ends of edge e of a table.
+fn edge_at(edges: &[u16], e: usize) -> Ends
+    requires { ⌜ 2 * e + 1 < length (now edges) ⌝ }
+    ensures { λ r. ⌜ r ≡ endsAt (now (edges .entry)) e ⌝ }
+{
+    Ends {
+        parent: edges[2 * e] as usize,
+        child: edges[2 * e + 1] as usize,
+    }
+}
+
+// How many whole edges a table has among its first count.
+fn whole_edges(edges: &[u16], count: usize) -> usize
+    ensures { λ r. ⌜ r ≡ min count (length (now (edges .entry)) / 2) ⌝ }
+{
+    if count <= edges.len() / 2 {
+        return count;
+    }
+    edges.len() / 2
+}
+
+// What stands at a place of a table; past its end stands 0.
+fn number_at(table: &[u16], i: usize) -> u16
+    ensures { λ r. ⌜ r ≡ getD (now (table .entry)) i 0 ⌝ }
+{
+    if i < table.len() {
+        return table[i];
+    }
+    0
+}
+
+// The interval of a node in a table.
+pub fn interval_at(intervals: &[u16], node: usize) -> Interval
+    ensures { λ r. ⌜ r ≡ intervalAt (now (intervals .entry)) node ⌝ }
+{
+    if intervals.len() / 2 < node {
+        return Interval { low: 0, high: 0 };
+    }
+    Interval {
+        low: number_at(intervals, 2 * node),
+        high: number_at(intervals, 2 * node + 1),
+    }
+}
+
+// Whether an edge is none that n nodes may have: 7 of the table of refusals.
+fn edge_wrong(n: usize, parent: usize, child: usize) -> bool
+    ensures { λ r. ⌜ r ≡ edgeWrong n parent child ⌝ }
+{
+    if n <= parent {
+        return true;
+    }
+    if n <= child {
+        return true;
+    }
+    if child == 0 {
+        return true;
+    }
+    parent == child
+}
+
+// Whether some edge is none that n nodes may have.
+pub fn edges_wrong(n: usize, edges: &[u16], count: usize) -> bool
+    ensures { λ r. ⌜ r ≡ someEdge (edgeWrong n) (edgesOf (now (edges .entry)) count) ⌝ }
+{
+    let whole = whole_edges(edges, count);
+    let mut e = 0;
+    while e < whole {
+        let ends = edge_at(edges, e);
+        if edge_wrong(n, ends.parent, ends.child) {
+            return true;
+        }
+        e += 1;
+    }
+    false
+}
+
+// The less of two numbers.
+fn lesser(x: u16, y: u16) -> u16
+    ensures { λ r. ⌜ r ≡ min x y ⌝ }
+{
+    if x <= y {
+        return x;
+    }
+    y
+}
+
+// The greater of two numbers.
+fn greater(x: u16, y: u16) -> u16
+    ensures { λ r. ⌜ r ≡ max x y ⌝ }
+{
+    if x <= y {
+        return y;
+    }
+    x
+}
+
+// The call's interval: from the least low to the greatest high of its names.
+fn call_interval(intervals: &[u16], names: &[u16]) -> Interval
+    ensures { λ r. ⌜ r ≡ callInterval (now (intervals .entry)) (now (names .entry)) ⌝ }
+{
+    if names.len() == 0 {
+        return Interval { low: 0, high: 0 };
+    }
+    let mut call = interval_at(intervals, names[0] as usize);
+    let mut i = 1;
+    while i < names.len() {
+        let next = interval_at(intervals, names[i] as usize);
+        i += 1;
+        call = Interval {
+            low: lesser(call.low, next.low),
+            high: greater(call.high, next.high),
+        };
+    }
+    call
+}
+
+// Whether an interval contains another.
+fn contains(outer: Interval, inner: Interval) -> bool
+    ensures { λ r. ⌜ r ≡ containing outer inner ⌝ }
+{
+    if outer.low <= inner.low {
+        return inner.high <= outer.high;
+    }
+    false
+}
+
+// How wide an interval is.
+fn width(a: Interval) -> u16
+    ensures { λ r. ⌜ r ≡ widthOf a ⌝ }
+{
+    if a.low <= a.high {
+        return a.high - a.low;
+    }
+    0
+}
+
+// Whether the search steps from the present node to one with the given interval.
+fn leads_on(interval: Interval, call: Interval, present: Interval) -> bool
+    ensures { λ r. ⌜ r ≡ (containing interval call && ltb (widthOf interval) (widthOf present)) ⌝ }
+{
+    if contains(interval, call) {
+        return width(interval) < width(present);
+    }
+    false
+}
+
+// The child that the search steps to, or the present node where there is none.
+fn step(intervals: &[u16], edges: &[u16], count: usize, call: Interval, present: usize) -> usize
+    ensures { λ r. ⌜ r ≡ stepOr (λ child. child) present (firstWithin (now (intervals .entry)) call present (children (edgesOf (now (edges .entry)) count) present)) ⌝ }
+{
+    let whole = whole_edges(edges, count);
+    let around = interval_at(intervals, present);
+    let mut e = 0;
+    while e < whole {
+        let ends = edge_at(edges, e);
+        let child = ends.child;
+        e += 1;
+        if ends.parent == present {
+            if leads_on(interval_at(intervals, child), call, around) {
+                return child;
+            }
+        }
+    }
+    present
+}
+
+// The search for the cover of a call's interval, from the root on.
+fn search(intervals: &[u16], edges: &[u16], count: usize, call: Interval) -> usize
+    ensures { λ r. ⌜ r ≡ coverOfInterval (now (intervals .entry)) (edgesOf (now (edges .entry)) count) call ⌝ }
+{
+    let mut present = 0;
+    loop {
+        let next = step(intervals, edges, count, call, present);
+        if next == present {
+            return present;
+        }
+        present = next;
+    }
+}
+
+// The cover of a call.
+pub fn cover(intervals: &[u16], edges: &[u16], count: usize, names: &[u16]) -> u16
+    ensures { λ r. ⌜ r ≡ coverOf (now (intervals .entry)) (edgesOf (now (edges .entry)) count) (now (names .entry)) ⌝ }
+{
+    let call = call_interval(intervals, names);
+    search(intervals, edges, count, call) as u16
 }
