@@ -12,3 +12,7 @@ pub mod Bounded
 pub mod Distinct
 pub mod EdgeLoops
 pub mod Searches
+pub mod Repeats
+pub mod Passes
+pub mod Spreads
+pub mod Judges

@@ -108,6 +108,142 @@ pub fn edges_wrong(n: usize, edges: &[u16], count: usize) -> bool
     false
 }
 
+// Sets each byte to 0.
+fn clear(bytes: &mut [u8])
+    ensures { λ _. ⌜ now (bytes .exit) ≡ replicate (length (now (bytes .entry))) 0 ⌝ }
+{
+    let mut i = 0;
+    while i < bytes.len() {
+        bytes[i] = 0;
+        i += 1;
+    }
+}
+
+// Whether a child of one parent stands twice. Each child met is flagged.
+fn child_twice(parent: usize, edges: &[u16], count: usize, flags: &mut [u8]) -> bool
+    requires { ⌜ Edges (length (now flags)) count (now edges) ⌝ }
+    ensures { λ r. ⌜ r ≡ repeats (children (edgesOf (now (edges .entry)) count) parent) ⌝ }
+{
+    clear(flags);
+    let mut e = 0;
+    while e < count {
+        let ends = edge_at(edges, e);
+        let child = ends.child;
+        e += 1;
+        if ends.parent == parent {
+            if flags[child] != 0 {
+                return true;
+            }
+            flags[child] = 1;
+        }
+    }
+    false
+}
+
+// Whether an edge stands twice: 8 of the table of refusals.
+fn edge_twice(edges: &[u16], count: usize, flags: &mut [u8]) -> bool
+    requires { ⌜ Edges (length (now flags)) count (now edges) ⌝ }
+    ensures { λ r. ⌜ r ≡ edgeTwice (edgesOf (now (edges .entry)) count) ⌝ }
+{
+    let mut parent = 0;
+    while parent < flags.len() {
+        if child_twice(parent, edges, count, flags) {
+            return true;
+        }
+        parent += 1;
+    }
+    false
+}
+
+// One pass over the edges: where the parent is flagged, the child is. Says whether a flag is new.
+fn spread_once(edges: &[u16], count: usize, flags: &mut [u8]) -> bool
+    requires { ⌜ Edges (length (now flags)) count (now edges) ⌝ }
+    requires { ⌜ Below 2 (now flags) ⌝ }
+    ensures { λ _. ⌜ now (flags .exit) ≡ spread (edgesOf (now (edges .entry)) count) (now (flags .entry)) ⌝ }
+    ensures { λ r. ⌜ Went zeros r (now (flags .entry)) (now (flags .exit)) ⌝ }
+{
+    let mut changed = false;
+    let mut e = 0;
+    while e < count {
+        let ends = edge_at(edges, e);
+        let parent = ends.parent;
+        let child = ends.child;
+        e += 1;
+        if flags[parent] != 0 {
+            if flags[child] == 0 {
+                flags[child] = 1;
+                changed = true;
+            }
+        }
+    }
+    changed
+}
+
+// Flags the nodes that the root reaches.
+fn flag_reached(edges: &[u16], count: usize, flags: &mut [u8])
+    requires { ⌜ Edges (length (now flags)) count (now edges) ⌝ }
+    requires { ⌜ 1 ≤ length (now flags) ⌝ }
+    ensures { λ _. ⌜ now (flags .exit) ≡ reach (length (now (flags .entry))) (edgesOf (now (edges .entry)) count) 0 ⌝ }
+{
+    clear(flags);
+    flags[0] = 1;
+    let mut on = true;
+    while on {
+        on = spread_once(edges, count, flags);
+    }
+}
+
+// Whether some byte is 0.
+fn some_zero(bytes: &[u8]) -> bool
+    ensures { λ r. ⌜ r ≡ any (eqb 0) (now (bytes .entry)) ⌝ }
+{
+    let mut i = 0;
+    while i < bytes.len() {
+        if bytes[i] == 0 {
+            return true;
+        }
+        i += 1;
+    }
+    false
+}
+
+// Whether the root does not reach some node: 9 of the table of refusals.
+fn some_unreached(edges: &[u16], count: usize, flags: &mut [u8]) -> bool
+    requires { ⌜ Edges (length (now flags)) count (now edges) ⌝ }
+    requires { ⌜ 1 ≤ length (now flags) ⌝ }
+    ensures { λ r. ⌜ r ≡ someUnreached (length (now (flags .entry))) (edgesOf (now (edges .entry)) count) ⌝ }
+{
+    flag_reached(edges, count, flags);
+    some_zero(flags)
+}
+
+// The lowest refusal from 5 to 9 that applies, or 0 where the hierarchy is legal.
+fn judge(n: usize, edges: &[u16], count: usize, flags: &mut [u8]) -> u8
+    requires { ⌜ 2 * count ≤ length (now edges) ⌝ }
+    requires { ⌜ length (now flags) ≡ 256 ⌝ }
+    ensures { λ r. ⌜ r ≡ numberOf (refusal (hierarchyChecks n (now (edges .entry)) count)) ⌝ }
+{
+    if n == 0 {
+        return 5;
+    }
+    if 256 < n {
+        return 5;
+    }
+    if 1024 < count {
+        return 6;
+    }
+    if edges_wrong(n, edges, count) {
+        return 7;
+    }
+    if edge_twice(edges, count, &mut flags[..n]) {
+        return 8;
+    }
+    if some_unreached(edges, count, &mut flags[..n]) {
+        return 9;
+    }
+    0
+}
+
 // The less of two numbers.
 fn lesser(x: u16, y: u16) -> u16
     ensures { λ r. ⌜ r ≡ min x y ⌝ }
