@@ -16,3 +16,4 @@ pub mod Repeats
 pub mod Passes
 pub mod Spreads
 pub mod Judges
+pub mod Walks

@@ -244,6 +244,67 @@ fn judge(n: usize, edges: &[u16], count: usize, flags: &mut [u8]) -> u8
     0
 }
 
+// Walks an unseen node, and returns the next number.
+fn walk(
+    node: usize,
+    next: u16,
+    edges: &[u16],
+    count: usize,
+    marks: &mut [u8],
+    numbers: &mut [u16],
+) -> u16
+    requires { ⌜ Ready node next count (now edges) (now marks) (now numbers) ⌝ }
+    ensures { λ r. ⌜ ((k : ℕ) → zeros (now (marks .entry)) ≤ k → walkAt r (now (marks .exit)) (now (numbers .exit)) ≡ walked k (edgesOf (now (edges .entry)) count) node (walkAt next (now (marks .entry)) (now (numbers .entry)))) ⌝ }
+{
+    marks[node] = 1;
+    let mut at = next;
+    let mut leaf = true;
+    let mut left = count;
+    while 0 < left {
+        let ends = edge_at(edges, count - left);
+        let child = ends.child;
+        left -= 1;
+        if ends.parent == node {
+            leaf = false;
+            if marks[child] == 0 {
+                at = walk(child, at, edges, count, marks, numbers);
+            } else if marks[child] == 1 {
+                if numbers[child] == 0 {
+                    numbers[child] = at;
+                    at += 1;
+                }
+            }
+        }
+    }
+    marks[node] = 2;
+    if leaf {
+        numbers[node] = at;
+        return at + 1;
+    }
+    at
+}
+
+// Sets each number to 0.
+fn clear_numbers(numbers: &mut [u16])
+    ensures { λ _. ⌜ now (numbers .exit) ≡ replicate (length (now (numbers .entry))) 0 ⌝ }
+{
+    let mut i = 0;
+    while i < numbers.len() {
+        numbers[i] = 0;
+        i += 1;
+    }
+}
+
+// Numbers the nodes by a walk from the root.
+fn number(edges: &[u16], count: usize, marks: &mut [u8], numbers: &mut [u16])
+    requires { ⌜ Fresh (length (now marks)) count (now edges) (now numbers) ⌝ }
+    ensures { λ _. ⌜ now (numbers .exit) ≡ numbering (length (now (marks .entry))) (edgesOf (now (edges .entry)) count) ⌝ }
+{
+    clear(marks);
+    clear_numbers(numbers);
+    walk(0, 1, edges, count, marks, numbers);
+}
+
 // The less of two numbers.
 fn lesser(x: u16, y: u16) -> u16
     ensures { λ r. ⌜ r ≡ min x y ⌝ }
