@@ -17,3 +17,9 @@ pub mod Passes
 pub mod Spreads
 pub mod Judges
 pub mod Walks
+pub mod Doubles
+pub mod Relaxes
+pub mod Tables
+pub mod Extremes
+pub mod Writes
+pub mod Builds

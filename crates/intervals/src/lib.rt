@@ -305,6 +305,138 @@ fn number(edges: &[u16], count: usize, marks: &mut [u8], numbers: &mut [u16])
     walk(0, 1, edges, count, marks, numbers);
 }
 
+// A number, with the largest u16 in the place of none.
+fn or_most(number: u16) -> u16
+    ensures { λ r. ⌜ r ≡ orMost number ⌝ }
+{
+    if number == 0 {
+        return 65535;
+    }
+    number
+}
+
+// Spreads the numbers of the first half over the whole table, for each node what low and high start from. Goes down, so that no number
+// is lost before it is read.
+fn interleave(n: usize, table: &mut [u16])
+    requires { ⌜ length (now table) ≡ 2 * n ⌝ }
+    ensures { λ _. ⌜ now (table .exit) ≡ doubled (take n (now (table .entry))) ⌝ }
+{
+    let mut node = n;
+    while 0 < node {
+        node -= 1;
+        let number = table[node];
+        table[2 * node + 1] = number;
+        table[2 * node] = or_most(number);
+    }
+}
+
+// Whether x is better than y: greater where up is true, less where it is not.
+fn better(up: bool, x: u16, y: u16) -> bool
+    ensures { λ r. ⌜ r ≡ isBetter up x y ⌝ }
+{
+    if up {
+        return y < x;
+    }
+    x < y
+}
+
+// One place takes another's value where that is better. Says whether it did.
+fn improve(up: bool, to: usize, from: usize, table: &mut [u16]) -> bool
+    requires { ⌜ to < length (now table) ⌝ }
+    requires { ⌜ from < length (now table) ⌝ }
+    ensures { λ r. ⌜ r ≡ isBetter up (getD (now (table .entry)) from 0) (getD (now (table .entry)) to 0) ⌝ }
+    ensures { λ _. ⌜ now (table .exit) ≡ improved up to from (now (table .entry)) ⌝ }
+{
+    let value = table[from];
+    if better(up, value, table[to]) {
+        table[to] = value;
+        return true;
+    }
+    false
+}
+
+// One pass over the edges: a parent takes its child's low where that is less, and its high where that is greater. Says whether any did.
+fn relax_once(edges: &[u16], count: usize, table: &mut [u16]) -> bool
+    requires { ⌜ Edges (length (lows (now table))) count (now edges) ⌝ }
+    ensures { λ _. ⌜ lows (now (table .exit)) ≡ relax false (edgesOf (now (edges .entry)) count) (lows (now (table .entry))) ⌝ }
+    ensures { λ _. ⌜ highs (now (table .exit)) ≡ relax true (edgesOf (now (edges .entry)) count) (highs (now (table .entry))) ⌝ }
+    ensures { λ r. ⌜ Went tableWeight r (now (table .entry)) (now (table .exit)) ⌝ }
+{
+    let mut changed = false;
+    let mut e = 0;
+    while e < count {
+        let ends = edge_at(edges, e);
+        let to = 2 * ends.parent;
+        let from = 2 * ends.child;
+        e += 1;
+        let low = improve(false, to, from, table);
+        let high = improve(true, to + 1, from + 1, table);
+        changed = changed | low | high;
+    }
+    changed
+}
+
+// Gives each node the least low and the greatest high that it reaches.
+fn settle(edges: &[u16], count: usize, table: &mut [u16])
+    requires { ⌜ Edges (length (lows (now table))) count (now edges) ⌝ }
+    ensures { λ _. ⌜ Best false (edgesOf (now (edges .entry)) count) (lows (now (table .entry))) (lows (now (table .exit))) ⌝ }
+    ensures { λ _. ⌜ Best true (edgesOf (now (edges .entry)) count) (highs (now (table .entry))) (highs (now (table .exit))) ⌝ }
+{
+    let mut on = true;
+    while on {
+        on = relax_once(edges, count, table);
+    }
+}
+
+// Writes the intervals of n nodes of a legal hierarchy.
+fn write_intervals(n: usize, edges: &[u16], count: usize, table: &mut [u16], marks: &mut [u8])
+    requires { ⌜ Writable n count (now edges) (now table) (now marks) ⌝ }
+    ensures { λ _. ⌜ now (table .exit) ≡ intervalTable n (edgesOf (now (edges .entry)) count) ⌝ }
+{
+    number(edges, count, marks, &mut table[..n]);
+    interleave(n, table);
+    settle(edges, count, table);
+}
+
+// Zeroes the part of the scratch that building may use.
+fn wipe(scratch: &mut [u8])
+    requires { ⌜ 2048 ≤ length (now scratch) ⌝ }
+    ensures { λ _. ⌜ now (scratch .exit) ≡ over (replicate 2048 0) (now (scratch .entry)) ⌝ }
+{
+    clear(&mut scratch[..2048]);
+}
+
+// Builds the intervals of n nodes.
+pub fn build(
+    n: usize,
+    edges: &[u16],
+    count: usize,
+    places: &mut [u16],
+    scratch: &mut [u8],
+) -> BuildAnswer
+    ensures { λ r. ⌜ buildMeaning r ≡ (buildStep n (now (edges .entry)) count (now (places .entry)) (now (scratch .entry))) .answer ⌝ }
+    ensures { λ _. ⌜ now (places .exit) ≡ (buildStep n (now (edges .entry)) count (now (places .entry)) (now (scratch .entry))) .places ⌝ }
+    ensures { λ _. ⌜ now (scratch .exit) ≡ (buildStep n (now (edges .entry)) count (now (places .entry)) (now (scratch .entry))) .scratch ⌝ }
+{
+    if places.len() / 2 < n {
+        return BuildAnswer::Refused(1);
+    }
+    if edges.len() / 2 < count {
+        return BuildAnswer::Refused(1);
+    }
+    if scratch.len() < 2048 {
+        return BuildAnswer::Refused(1);
+    }
+    let refusal = judge(n, edges, count, &mut scratch[..256]);
+    if refusal != 0 {
+        wipe(scratch);
+        return BuildAnswer::Refused(refusal);
+    }
+    write_intervals(n, edges, count, &mut places[..2 * n], &mut scratch[..n]);
+    wipe(scratch);
+    BuildAnswer::Built
+}
+
 // The less of two numbers.
 fn lesser(x: u16, y: u16) -> u16
     ensures { λ r. ⌜ r ≡ min x y ⌝ }
