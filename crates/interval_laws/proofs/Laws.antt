@@ -14,16 +14,16 @@ use Rattle.intervals.specs.Answer.{Answer, done, _when_, answerOf}
 use Rattle.intervals.specs.Hierarchy.{edgesOf, children, Edge, Reach, reach, hierarchyChecks, Legal}
 use Rattle.intervals.specs.Hierarchy.Reach.{self, step}
 use Rattle.intervals.specs.Numbering.{numbering}
-use Rattle.intervals.specs.Intervals.{numbersAmong, lowOf, highOf, intervalsFrom, intervalTable}
+use Rattle.intervals.specs.Intervals.{lowOf, highOf, intervalsFrom, intervalTable}
 use Rattle.intervals.specs.Cover.{lowAt, highAt, intervalAt, callInterval, contains, firstWithin, coverOfInterval, coverOf}
 use Rattle.intervals.specs.Build.{buildShort, buildRefusal, placesAfter, buildStep}
 use Rattle.intervals.specs.declared.Interval.{Interval}
 use Rattle.intervals.proofs.Bools.{and-both, or-left, or-right, not-both}
 use Rattle.intervals.proofs.Refusals.{refused-later, refusal-none}
-use Rattle.intervals.proofs.Members.{In, head, tail, in-nil, in-cons, least-most, least-is, greatest-least, greatest-is, among-in, among-from}
-use Rattle.intervals.proofs.Reaches.{reach-all, reach-only}
-use Rattle.intervals.proofs.Found.{Found, reached-found}
+use Rattle.intervals.proofs.Members.{In, head, tail, in-nil, in-cons, least-most, least-is, greatest-least, greatest-is}
+use Rattle.intervals.proofs.Reaches.{reach-all, reach-only, reach-within}
 use Rattle.intervals.proofs.Legals.{Promise, promised}
+use Rattle.intervals.proofs.Extremes.{reach-numbered as numbered-in, low-most as least-low, low-is as least-is-low, high-least as greatest-high, high-is as greatest-is-high}
 use Rattle.intervals.proofs.Covers.{search-ends, search-is}
 use Rattle.interval_laws.proofs.Numbers.{numbering-most, numbering-once}
 
@@ -31,10 +31,6 @@ use Rattle.interval_laws.proofs.Numbers.{numbering-most, numbering-once
 reach-on : {es : List ℕ} {a b x : ℕ} → Reach es a b → Reach es b x → Reach es a x
 reach-on self w = w
 reach-on (step e v) w = step e (reach-on v w)
-
-pub reach-within : {es : List ℕ} {a x : ℕ} (n : ℕ) → ((p c : ℕ) → Edge es p c → c < n) → Reach es a x → a < n → x < n
-reach-within n ends self h = h
-reach-within {a = a} n ends (step {child = c} e w) h = reach-within n ends w (ends a c e)
 
 -- an interval of numbers from 1 to n
 pub record Real (n low high : ℕ) : Type 0 where
@@ -139,41 +135,22 @@ module _ (n : ℕ) (table : List ℕ) (edgeCount : ℕ) (legal : Legal n table e
 
   -- each reach holds a numbered node
   pub reach-numbered : (node : ℕ) → node < n → (x : ℕ) × Reach es node x × (1 ≤ number x)
-  unfolding numbering
-  reach-numbered node h = let f = reached-found es n ends (promise .some) node (promise .reached node h) in (f .leaf, f .way, f .has)
+  reach-numbered = numbered-in n es promise
 
   module _ (node : ℕ) (h : node < n) where
-    abbrev numbers : List ℕ
-    numbers = numbersAmong (reach n es node) (numbering n es)
-
-    reached-in : (x : ℕ) → Reach es node x → 1 ≤ number x → In (number x) numbers
-    reached-in x w k = among-in (reach n es node) (numbering n es) x (reach-all es n ends node x h w) k
-
-    some-in : In (number (reach-numbered node h .0)) numbers
-    some-in = let f = reach-numbered node h in reached-in (f .0) (f .1) (f .2)
-
-    only-in : (P : ℕ → Type 0) → ((x : ℕ) → Reach es node x → 1 ≤ number x → P (number x)) → (y : ℕ) → In y numbers → P y
-    only-in P f y i =
-        let a = among-from (reach n es node) (numbering n es) y i in
-        subst P (a .number) (f (a .node) (reach-only es n ends node (a .node) (a .flagged)) (omega (arith, a .number, a .some)))
-
     -- low is the least number among the nodes reached: at most each, and one of them
     pub low-most : (x : ℕ) → Reach es node x → 1 ≤ number x → lowOf n es node ≤ number x
-    unfolding lowOf
-    low-most x w k = least-most (number x) numbers (reached-in x w k)
+    low-most = least-low n es promise node h
 
     pub low-is : (P : ℕ → Type 0) → ((x : ℕ) → Reach es node x → 1 ≤ number x → P (number x)) → P (lowOf n es node)
-    unfolding lowOf
-    low-is P f = least-is P (number (reach-numbered node h .0)) numbers some-in (only-in P f)
+    low-is = least-is-low n es promise node h
 
     -- high is the greatest
     pub high-least : (x : ℕ) → Reach es node x → 1 ≤ number x → number x ≤ highOf n es node
-    unfolding highOf
-    high-least x w k = greatest-least (number x) numbers (reached-in x w k)
+    high-least = greatest-high n es promise node h
 
     pub high-is : (P : ℕ → Type 0) → ((x : ℕ) → Reach es node x → 1 ≤ number x → P (number x)) → P (highOf n es node)
-    unfolding highOf
-    high-is P f = greatest-is P (number (reach-numbered node h .0)) numbers some-in (only-in P f)
+    high-is = greatest-is-high n es promise node h
 
     -- each interval is real, within 1 to n
     pub interval-real : Real n (lowOf n es node) (highOf n es node)

@@ -1,16 +1,19 @@
 -- The cover search, over tables of any contents: it ends, and what it ends in contains the call's interval where its start does. Assumes nothing.
 use mathlib.Core.Path.{_≡_, refl, sym, ap, _∙_, subst}
-use mathlib.Core.List.{List, [], _∷_}
-use mathlib.Core.Bool.{Bool, true, false, _&&_}
+use mathlib.Core.List.{List, [], _∷_, map}
+use mathlib.Core.Bool.{true, _&&_}
 use mathlib.Core.Option.{Option, none, some}
-use Prim.Native.Nat.{ℕ, zero, suc, _≤_, _<_}
+use Prim.Native.Nat.{ℕ, zero, suc, _+_, _≤_, _<_, min, max}
 use native.Mathlib.Omega.{arith}
 use lib.Dec.{ltb}
+use lib.ListN.{length, getD, drop, drop-of-length-le}
 use borrow.Author.Tests.{ltb-true}
 use Rattle.intervals.specs.Hierarchy.{children, Edge}
-use Rattle.intervals.specs.Cover.{intervalAt, contains, width, orElse, firstWithin, stepOr, searchFrom}
+use Rattle.intervals.specs.Lists.{foldFrom, least, greatest}
+use Rattle.intervals.specs.Cover.{lowAt, highAt, intervalAt, callInterval, contains, width, firstWithin, stepOr, searchFrom}
 use Rattle.intervals.specs.declared.Interval.{Interval}
 use Rattle.intervals.proofs.Bools.{bool, and-left, and-right, not-both}
+use Rattle.intervals.proofs.Loops.{drop-step}
 use Rattle.intervals.proofs.Members.{In, head, tail, edge-of}
 
 -- a child that the search steps to
@@ -38,7 +41,7 @@ module _ (table es : List ℕ) (call : Interval) where
   abbrev onward : ℕ → Option ℕ
   onward present = firstWithin table call present (children es present)
 
-  option : {P : Type 0} (o : Option ℕ) → (o ≡ none → P) → ((child : ℕ) → o ≡ some child → P) → P
+  pub option : {P : Type 0} (o : Option ℕ) → (o ≡ none → P) → ((child : ℕ) → o ≡ some child → P) → P
   option none f g = f refl
   option (some child) f g = g child refl
 
@@ -52,7 +55,7 @@ module _ (table es : List ℕ) (call : Interval) where
   unfolding searchFrom
   search-step k present child e = ap (stepOr (searchFrom k table es call) present) e
 
-  narrowed : (present child : ℕ) → onward present ≡ some child → width (intervalAt table child) < width (intervalAt table present)
+  pub narrowed : (present child : ℕ) → onward present ≡ some child → width (intervalAt table child) < width (intervalAt table present)
   narrowed present child e = first-within table call present (children es present) child e .narrower
 
   -- as many steps as the present interval is wide are enough: from what is found no step leads on
@@ -94,3 +97,27 @@ module _ (table es : List ℕ) (call : Interval) where
       (λ child e.
       let w = first-within table call present (children es present) child e in
       subst P (sym (search-step k present child e)) (search-is P f k child (f present child (edge-of es present child (w .member)) (w .around) p)))
+
+-- THE CALL'S INTERVAL: an interval widened to those of the names
+module _ (table : List ℕ) where
+  abbrev pub widened : Interval → List ℕ → Interval
+  widened a names = record { low = foldFrom min (a .low) (map (lowAt table) names); high = foldFrom max (a .high) (map (highAt table) names) }
+
+  pub widened-none : (names : List ℕ) → length names ≡ 0 → callInterval table names ≡ record { low = 0; high = 0 }
+  unfolding least greatest
+  widened-none [] h = refl
+  widened-none (x ∷ xs) h = absurd (omega arith)
+
+  pub widened-start : (names : List ℕ) → 0 < length names → widened (intervalAt table (getD names 0 0)) (drop 1 names) ≡ callInterval table names
+  unfolding least greatest
+  widened-start [] h = absurd (omega arith)
+  widened-start (x ∷ xs) h = refl
+
+  pub widened-next : (names : List ℕ) (i : ℕ) {r : Interval} (a b : Interval) → widened a (drop i names) ≡ r → i < length names → b ≡ intervalAt table (getD names i 0)
+      → widened (record { low = min (a .low) (b .low); high = max (a .high) (b .high) }) (drop (i + 1) names) ≡ r
+  unfolding foldFrom
+  widened-next names i a b inv h at = rw at (rw (drop-step names i 0 refl h) at inv)
+
+  pub widened-end : (names : List ℕ) (i : ℕ) {r : Interval} (a : Interval) → widened a (drop i names) ≡ r → length names ≤ i → a ≡ r
+  unfolding foldFrom
+  widened-end names i a inv h = rw (drop-of-length-le names h) at inv

@@ -10,3 +10,16 @@ pub mod Covers
 pub mod Loops
 pub mod Bounded
 pub mod Distinct
+pub mod EdgeLoops
+pub mod Searches
+pub mod Repeats
+pub mod Passes
+pub mod Spreads
+pub mod Judges
+pub mod Walks
+pub mod Doubles
+pub mod Relaxes
+pub mod Tables
+pub mod Extremes
+pub mod Writes
+pub mod Builds

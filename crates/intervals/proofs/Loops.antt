@@ -4,13 +4,14 @@
 -- Assumes nothing.
 use mathlib.Core.Path.{_≡_, refl, sym, ap, _∙_}
 use mathlib.Core.List.{List, [], _∷_, _++_, map, append-assoc, append-nil}
-use mathlib.Core.Bool.{Bool, true, false, _&&_}
+use mathlib.Core.Bool.{Bool, true, false}
 use Prim.Native.Nat.{ℕ, zero, suc, _+_, _<_, _≤_}
 use native.Mathlib.Numerals.{add-one}
 use native.Mathlib.Nat.{not-suc-le-zero, le-of-suc-le-suc}
 use native.Mathlib.Omega.{arith}
-use lib.ListN.{length, getD, take, drop, set, drop-of-length-le, length-map, take-append-drop}
-use lib.Seq.{drop-cons, length-take-le, take-suc-set, drop-set-lt, drop-drop}
+use borrow.Author.Fill.{fill-more}
+use lib.ListN.{length, getD, take, drop, set, replicate, length-set, drop-of-length-le, length-map, take-append-drop}
+use lib.Seq.{drop-cons, drop-length, take-at, length-take-le, take-suc-set, drop-set-lt, drop-drop}
 use Rattle.intervals.specs.Lists.{every, any, tails, over, count, keep}
 use Rattle.intervals.proofs.Bools.{and-left, and-right}
 
@@ -71,6 +72,20 @@ module _ {A : Type 0} where
   unfolding tails
   tails-end p l i inv h = rw (drop-of-length-le l h) at inv
 
+  -- a test of some element, with the invariant `any p (drop i l) ≡ r`
+  pub any-stop : (p : A → Bool) (l : List A) (i : ℕ) (d : A) {x : A} {r : Bool} → any p (drop i l) ≡ r → getD l i d ≡ x → p x ≡ true → i < length l → true ≡ r
+  unfolding any
+  any-stop p l i d inv at e h = rw (drop-step l i d at h, e) at inv
+
+  pub any-next : (p : A → Bool) (l : List A) (i : ℕ) (d : A) {x : A} {r : Bool} → any p (drop i l) ≡ r → getD l i d ≡ x → p x ≡ false → i < length l
+      → any p (drop (i + 1) l) ≡ r
+  unfolding any
+  any-next p l i d inv at e h = rw (drop-step l i d at h, e) at inv
+
+  pub any-end : (p : A → Bool) (l : List A) (i : ℕ) {r : Bool} → any p (drop i l) ≡ r → length l ≤ i → false ≡ r
+  unfolding any
+  any-end p l i inv h = rw (drop-of-length-le l h) at inv
+
   -- a count, with the invariant `n + count p (drop i l) ≡ r`
   pub count-hit : (p : A → Bool) (l : List A) (i : ℕ) (d : A) (n : ℕ) {x : A} {r : ℕ} → n + count p (drop i l) ≡ r → getD l i d ≡ x → p x ≡ true → i < length l
       → (n + 1) + count p (drop (i + 1) l) ≡ r
@@ -112,3 +127,29 @@ module _ {A : Type 0} where
   pub keep-end : (p : A → Bool) (l : List A) (i : ℕ) (buf : List A) (k : ℕ) {r : List A} → take k buf ++ keep p (drop i l) ≡ r → length l ≤ i → take k buf ≡ r
   unfolding keep
   keep-end p l i buf k inv h = let q = rw (drop-of-length-le l h) at inv in rw append-nil at q
+
+-- a list that is filled with one value, from the front on
+pub record Filling (v : ℕ) (l₀ l : List ℕ) (i : ℕ) : Type 0 where
+  pub so-far : i ≤ length l₀
+  pub long : length l ≡ length l₀
+  pub same : l ≡ replicate i v ++ drop i l₀
+
+pub filling-start : (v : ℕ) (l : List ℕ) → Filling v l l 0
+filling-start v l = record { so-far = omega arith; long = refl; same = refl }
+
+pub filling-more : (v : ℕ) (l₀ l : List ℕ) (i : ℕ) → Filling v l₀ l i → i < length l → Filling v l₀ (set l i v) (i + 1)
+filling-more v l₀ l i f h =
+    record {
+      so-far = omega (arith, f .long);
+      long = length-set l i v ∙ f .long;
+      same = ap (λ (t : List ℕ). set t i v) (f .same) ∙ fill-more i v l₀ (omega (arith, f .long));
+    }
+
+pub filling-end : (v : ℕ) (l₀ l : List ℕ) (i : ℕ) → Filling v l₀ l i → length l ≤ i → l ≡ replicate (length l₀) v
+filling-end v l₀ l i f h =
+    let e : i ≡ length l₀ = omega (arith, f .so-far, f .long) in
+    f .same ∙ rw (e, drop-length l₀, append-nil (replicate (length l₀) v)) refl
+
+-- a part that was lent and came back, of the same length: it can be lent again, and is what came back
+pub lent : {A : Type 0} (n : ℕ) (part l : List A) → n ≤ length l → length part ≡ length (take n l) → take n (part ++ drop n l) ≡ part
+lent n part l h e = take-at part (drop n l) n (e ∙ length-take-le n l h)

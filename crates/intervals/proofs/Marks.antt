@@ -1,13 +1,12 @@
 -- Laws of marks and flags: lists of numbers in which 0 says that nothing was done yet. Assumes nothing.
-use mathlib.Core.Path.{_≡_, refl, sym, ap, _∙_}
+use mathlib.Core.Path.{_≡_, refl, ap, _∙_}
 use mathlib.Core.List.{List, [], _∷_}
-use mathlib.Core.Bool.{Bool, true, false}
 use Prim.Native.Nat.{ℕ, zero, suc, _+_, _≤_, _<_, suc-le-suc}
 use native.Mathlib.Nat.{le-of-suc-le-suc, not-suc-le-zero}
 use native.Mathlib.Numerals.{add-one}
 use native.Mathlib.Omega.{arith}
 use lib.Dec.{eqb}
-use lib.ListN.{length, getD, set, replicate}
+use lib.ListN.{length, getD, set, replicate, List·getD-eq-default}
 use borrow.Author.Tests.{eqb-true, eq-eqb, ne-eqb}
 use Rattle.intervals.specs.Inner.{zeros}
 use Rattle.intervals.proofs.Bools.{bool}
@@ -62,6 +61,9 @@ pub within : (l : List ℕ) (i d : ℕ) → (getD l i d ≡ d → ⊥) → i < l
 within [] i d h = absurd (h refl)
 within (x ∷ xs) zero d h = omega arith
 within (x ∷ xs) (suc i) d h = let r = within xs i d h in omega arith
+
+pub past : (l : List ℕ) (i d : ℕ) → length l ≤ i → getD l i d ≡ d
+past l i d h = List·getD-eq-default l d h
 
 -- fresh tables hold 0
 pub zero-at : (m i : ℕ) → _≡_ {A = ℕ} (getD (replicate m 0) i 0) 0

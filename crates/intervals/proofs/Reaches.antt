@@ -1,8 +1,8 @@
 -- The flags that spread over a table of edges are those of the nodes reached. Assumes nothing.
-use mathlib.Core.Path.{_≡_, refl, sym, ap, _∙_, subst}
+use mathlib.Core.Path.{_≡_, refl, sym, _∙_, subst}
 use mathlib.Core.List.{List, [], _∷_}
 use mathlib.Core.Bool.{Bool, true, false, not}
-use Prim.Native.Nat.{ℕ, zero, suc, _+_, _≤_, _<_}
+use Prim.Native.Nat.{ℕ, zero, suc, _≤_, _<_}
 use native.Mathlib.Omega.{arith}
 use lib.Dec.{eqb, ltb}
 use lib.ListN.{length, getD, set, replicate, length-set, length-replicate}
@@ -13,7 +13,7 @@ use Rattle.intervals.specs.Hierarchy.{Edge, Reach, flaggedIf, spread, sp
 use Rattle.intervals.specs.Hierarchy.Edge.{first, later}
 use Rattle.intervals.specs.Hierarchy.Reach.{self, step}
 use Rattle.intervals.proofs.Bools.{bool}
-use Rattle.intervals.proofs.Marks.{getD-any, zeros-set, zeros-cons, zeros-replicate, set-get, within, zero-at}
+use Rattle.intervals.proofs.Marks.{zeros-set, zeros-cons, zeros-replicate, set-get, zero-at}
 
 -- x has a flag
 abbrev pub On : List ℕ → ℕ → Type 0
@@ -188,3 +188,8 @@ module _ (es : List ℕ) where
         (λ x o. bool (eqb x r)
         (λ q. subst (λ (y : ℕ). Reach es r y) (sym (eqb-true x r q)) self)
         (λ q. absurd (omega (arith, o, getD-set-other {A = ℕ} (replicate n 0) r x 1 0 (eqb-false x r q), zero-at n x))))
+
+-- what a node reaches is a node
+pub reach-within : {es : List ℕ} {a x : ℕ} (n : ℕ) → ((p c : ℕ) → Edge es p c → c < n) → Reach es a x → a < n → x < n
+reach-within n ends self h = h
+reach-within {a = a} n ends (step {child = c} e w) h = reach-within n ends w (ends a c e)

@@ -1,8 +1,14 @@
 -- Terms of the contracts of private functions only: no definition of the paper is here. Assumes nothing.
+use mathlib.Core.Path.{_≡_}
 use mathlib.Core.List.{List, [], _∷_}
-use mathlib.Core.Bool.{Bool, true, false}
-use Prim.Native.Nat.{ℕ, suc}
-use lib.Dec.{eqb}
+use mathlib.Core.Bool.{Bool, true, false, _||_}
+use mathlib.Core.Option.{Option, none, some}
+use Prim.Native.Nat.{ℕ, suc, _+_, _-_, _*_, _<_, _≤_}
+use lib.Dec.{eqb, ltb}
+use lib.ListN.{length, getD, set}
+use Rattle.intervals.specs.Lists.{any}
+use Rattle.intervals.specs.Hierarchy.{Edge, Reach, edgesOf, Legal}
+use Rattle.intervals.specs.declared.Ends.{Ends}
 
 -- one more where the test holds
 abbrev pub oneIf : Bool → ℕ → ℕ
@@ -13,3 +19,118 @@ oneIf false n = n
 unfoldable pub zeros : List ℕ → ℕ
 zeros [] = 0
 zeros (x ∷ xs) = oneIf (eqb x 0) (zeros xs)
+
+-- the ends of edge e of a table
+abbrev pub endsAt : List ℕ → ℕ → Ends
+endsAt edges e = record { parent = getD edges (2 * e) 0; child = getD edges (2 * e + 1) 0 }
+
+-- what a loop over an edge table asks: the table has all its edges, and their ends are below n
+pub record Edges (n count : ℕ) (edges : List ℕ) : Type 0 where
+  pub table : 2 * count ≤ length edges
+  pub below : (parent child : ℕ) → Edge (edgesOf edges count) parent child → (parent < n) × (child < n)
+
+-- some element stands again later in the list
+unfoldable pub repeats : List ℕ → Bool
+repeats [] = false
+repeats (x ∷ xs) = any (eqb x) xs || repeats xs
+
+-- what a pass says by its answer: something changed and the measure fell, or nothing changed
+abbrev pub Went : (List ℕ → ℕ) → Bool → List ℕ → List ℕ → Type 0
+Went measure true before after = measure after < measure before
+Went measure false before after = after ≡ before
+
+-- the number of a refusal, 0 for none
+abbrev pub numberOf : Option ℕ → ℕ
+numberOf none = 0
+numberOf (some k) = k
+
+-- what a walk of a node asks: it is unseen, the tables fit together, and the counter has room for each node twice
+pub record Ready (node next count : ℕ) (edges marks numbers : List ℕ) : Type 0 where
+  pub here : node < length marks
+  pub unseen : getD marks node 0 ≡ 0
+  pub alike : length numbers ≡ length marks
+  pub ends : Edges (length marks) count edges
+  pub first : 1 ≤ next
+  pub room : next + (zeros marks + zeros numbers) < 65536
+
+-- what the numbering of n nodes asks of its tables, whatever they hold
+pub record Fresh (n count : ℕ) (edges numbers : List ℕ) : Type 0 where
+  pub some : 1 ≤ n
+  pub few : n ≤ 256
+  pub alike : length numbers ≡ n
+  pub ends : Edges n count edges
+
+-- x is better than y: greater where up is true, less where it is false
+abbrev pub isBetter : Bool → ℕ → ℕ → Bool
+isBetter true x y = ltb y x
+isBetter false x y = ltb x y
+
+abbrev pub pick : Bool → ℕ → ℕ → ℕ
+pick true x y = x
+pick false x y = y
+
+-- a store where the test holds
+abbrev pub setIf : Bool → List ℕ → ℕ → ℕ → List ℕ
+setIf true l i v = set l i v
+setIf false l i v = l
+
+-- one place takes another's value where that is better
+abbrev pub improved : Bool → ℕ → ℕ → List ℕ → List ℕ
+improved up to from l = setIf (isBetter up (getD l from 0) (getD l to 0)) l to (getD l from 0)
+
+-- one pass over the edges: a parent takes its child's value where that is better
+unfoldable pub relax : Bool → List ℕ → List ℕ → List ℕ
+relax up [] l = l
+relax up (parent ∷ []) l = l
+relax up (parent ∷ child ∷ es) l = relax up es (improved up parent child l)
+
+-- v is the value of a node that the given one reaches
+pub record From (es values : List ℕ) (node v : ℕ) : Type 0 where
+  pub of : ℕ
+  pub way : Reach es node of
+  pub same : v ≡ getD values of 0
+
+-- each value is one of those that its node reaches, and none of them is better
+pub record Best (up : Bool) (es before after : List ℕ) : Type 0 where
+  pub long : length after ≡ length before
+  pub from : (node : ℕ) → From es before node (getD after node 0)
+  pub over : (node x : ℕ) → Reach es node x → isBetter up (getD before x 0) (getD after node 0) ≡ false
+
+-- how far values are from the best: a pass that changes one lessens it
+abbrev pub weigh : Bool → ℕ → ℕ
+weigh true x = 65535 - x
+weigh false x = x
+
+unfoldable pub weight : Bool → List ℕ → ℕ
+weight up [] = 0
+weight up (x ∷ xs) = weigh up x + weight up xs
+
+-- of a table with low and high in turn: the lows, the highs, and how far both are from the best
+unfoldable pub lows : List ℕ → List ℕ
+lows [] = []
+lows (low ∷ []) = []
+lows (low ∷ high ∷ table) = low ∷ lows table
+
+unfoldable pub highs : List ℕ → List ℕ
+highs [] = []
+highs (low ∷ []) = []
+highs (low ∷ high ∷ table) = high ∷ highs table
+
+unfoldable pub tableWeight : List ℕ → ℕ
+tableWeight table = weight false (lows table) + weight true (highs table)
+
+-- a number, with the largest u16 in the place of none
+abbrev pub orMost : ℕ → ℕ
+orMost x = pick (eqb x 0) 65535 x
+
+-- the table that relaxing starts from: each number twice in turn, as a low and as a high
+unfoldable pub doubled : List ℕ → List ℕ
+doubled [] = []
+doubled (x ∷ xs) = orMost x ∷ x ∷ doubled xs
+
+-- what writing the intervals of n nodes asks
+pub record Writable (n count : ℕ) (edges table marks : List ℕ) : Type 0 where
+  pub legal : Legal n edges count
+  pub whole : 2 * count ≤ length edges
+  pub table-long : length table ≡ 2 * n
+  pub marks-long : length marks ≡ n

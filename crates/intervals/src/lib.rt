@@ -1,5 +1,19 @@
 // The hierarchy: refusals 5 to 9, the numbering walk, intervals, building, and the cover of a call.
 
+ghost use mathlib.Core.Path.{_≡_};
+ghost use mathlib.Core.Bool.{true, false, _&&_};
+ghost use Prim.Native.Nat.{ℕ, _+_, _*_, _/_, _<_, _≤_, min, max};
+ghost use lib.Dec.{eqb, ltb};
+ghost use lib.ListN.{length, getD, take, replicate};
+ghost use Rattle.intervals.specs.Lists.{any, over, Below};
+ghost use Rattle.intervals.specs.Answer.{refusal};
+ghost use Rattle.intervals.specs.Hierarchy.{edgesOf, children, someEdge, spread, reach, edgeWrong, edgeTwice, someUnreached, hierarchyChecks};
+ghost use Rattle.intervals.specs.Numbering.{at as walkAt, walk as walked, numbering};
+ghost use Rattle.intervals.specs.Intervals.{intervalTable};
+ghost use Rattle.intervals.specs.Build.{buildStep, buildMeaning};
+ghost use Rattle.intervals.specs.Cover.{intervalAt, callInterval, contains as containing, width as widthOf, firstWithin, stepOr, coverOfInterval, coverOf};
+ghost use Rattle.intervals.specs.Inner.{endsAt, Edges, repeats, Went, zeros, numberOf, Ready, Fresh, isBetter, improved, relax, Best, lows, highs, tableWeight, orMost, doubled, Writable};
+
 // The interval of a node or of a call, from its low to its high.
 pub struct Interval {
     pub low: u16,
@@ -10,4 +24,527 @@ pub struct Interval {
 pub enum BuildAnswer {
     Built,
     Refused(u8),
+}
+
+// The two ends of an edge.
+struct Ends {
+    parent: usize,
+    child: usize,
+}
+
+// The ends of edge e of a table.
+fn edge_at(edges: &[u16], e: usize) -> Ends
+    requires { ⌜ 2 * e + 1 < length (now edges) ⌝ }
+    ensures { λ r. ⌜ r ≡ endsAt (now (edges .entry)) e ⌝ }
+{
+    Ends {
+        parent: edges[2 * e] as usize,
+        child: edges[2 * e + 1] as usize,
+    }
+}
+
+// How many whole edges a table has among its first count.
+fn whole_edges(edges: &[u16], count: usize) -> usize
+    ensures { λ r. ⌜ r ≡ min count (length (now (edges .entry)) / 2) ⌝ }
+{
+    if count <= edges.len() / 2 {
+        return count;
+    }
+    edges.len() / 2
+}
+
+// What stands at a place of a table; past its end stands 0.
+fn number_at(table: &[u16], i: usize) -> u16
+    ensures { λ r. ⌜ r ≡ getD (now (table .entry)) i 0 ⌝ }
+{
+    if i < table.len() {
+        return table[i];
+    }
+    0
+}
+
+// The interval of a node in a table.
+pub fn interval_at(intervals: &[u16], node: usize) -> Interval
+    ensures { λ r. ⌜ r ≡ intervalAt (now (intervals .entry)) node ⌝ }
+{
+    if intervals.len() / 2 < node {
+        return Interval { low: 0, high: 0 };
+    }
+    Interval {
+        low: number_at(intervals, 2 * node),
+        high: number_at(intervals, 2 * node + 1),
+    }
+}
+
+// Whether an edge is none that n nodes may have: 7 of the table of refusals.
+fn edge_wrong(n: usize, parent: usize, child: usize) -> bool
+    ensures { λ r. ⌜ r ≡ edgeWrong n parent child ⌝ }
+{
+    if n <= parent {
+        return true;
+    }
+    if n <= child {
+        return true;
+    }
+    if child == 0 {
+        return true;
+    }
+    parent == child
+}
+
+// Whether some edge is none that n nodes may have.
+pub fn edges_wrong(n: usize, edges: &[u16], count: usize) -> bool
+    ensures { λ r. ⌜ r ≡ someEdge (edgeWrong n) (edgesOf (now (edges .entry)) count) ⌝ }
+{
+    let whole = whole_edges(edges, count);
+    let mut e = 0;
+    while e < whole {
+        let ends = edge_at(edges, e);
+        if edge_wrong(n, ends.parent, ends.child) {
+            return true;
+        }
+        e += 1;
+    }
+    false
+}
+
+// Sets each byte to 0.
+fn clear(bytes: &mut [u8])
+    ensures { λ _. ⌜ now (bytes .exit) ≡ replicate (length (now (bytes .entry))) 0 ⌝ }
+{
+    let mut i = 0;
+    while i < bytes.len() {
+        bytes[i] = 0;
+        i += 1;
+    }
+}
+
+// Whether a child of one parent stands twice. Each child met is flagged.
+fn child_twice(parent: usize, edges: &[u16], count: usize, flags: &mut [u8]) -> bool
+    requires { ⌜ Edges (length (now flags)) count (now edges) ⌝ }
+    ensures { λ r. ⌜ r ≡ repeats (children (edgesOf (now (edges .entry)) count) parent) ⌝ }
+{
+    clear(flags);
+    let mut e = 0;
+    while e < count {
+        let ends = edge_at(edges, e);
+        let child = ends.child;
+        e += 1;
+        if ends.parent == parent {
+            if flags[child] != 0 {
+                return true;
+            }
+            flags[child] = 1;
+        }
+    }
+    false
+}
+
+// Whether an edge stands twice: 8 of the table of refusals.
+fn edge_twice(edges: &[u16], count: usize, flags: &mut [u8]) -> bool
+    requires { ⌜ Edges (length (now flags)) count (now edges) ⌝ }
+    ensures { λ r. ⌜ r ≡ edgeTwice (edgesOf (now (edges .entry)) count) ⌝ }
+{
+    let mut parent = 0;
+    while parent < flags.len() {
+        if child_twice(parent, edges, count, flags) {
+            return true;
+        }
+        parent += 1;
+    }
+    false
+}
+
+// One pass over the edges: where the parent is flagged, the child is. Says whether a flag is new.
+fn spread_once(edges: &[u16], count: usize, flags: &mut [u8]) -> bool
+    requires { ⌜ Edges (length (now flags)) count (now edges) ⌝ }
+    requires { ⌜ Below 2 (now flags) ⌝ }
+    ensures { λ _. ⌜ now (flags .exit) ≡ spread (edgesOf (now (edges .entry)) count) (now (flags .entry)) ⌝ }
+    ensures { λ r. ⌜ Went zeros r (now (flags .entry)) (now (flags .exit)) ⌝ }
+{
+    let mut changed = false;
+    let mut e = 0;
+    while e < count {
+        let ends = edge_at(edges, e);
+        let parent = ends.parent;
+        let child = ends.child;
+        e += 1;
+        if flags[parent] != 0 {
+            if flags[child] == 0 {
+                flags[child] = 1;
+                changed = true;
+            }
+        }
+    }
+    changed
+}
+
+// Flags the nodes that the root reaches.
+fn flag_reached(edges: &[u16], count: usize, flags: &mut [u8])
+    requires { ⌜ Edges (length (now flags)) count (now edges) ⌝ }
+    requires { ⌜ 1 ≤ length (now flags) ⌝ }
+    ensures { λ _. ⌜ now (flags .exit) ≡ reach (length (now (flags .entry))) (edgesOf (now (edges .entry)) count) 0 ⌝ }
+{
+    clear(flags);
+    flags[0] = 1;
+    let mut on = true;
+    while on {
+        on = spread_once(edges, count, flags);
+    }
+}
+
+// Whether some byte is 0.
+fn some_zero(bytes: &[u8]) -> bool
+    ensures { λ r. ⌜ r ≡ any (eqb 0) (now (bytes .entry)) ⌝ }
+{
+    let mut i = 0;
+    while i < bytes.len() {
+        if bytes[i] == 0 {
+            return true;
+        }
+        i += 1;
+    }
+    false
+}
+
+// Whether the root does not reach some node: 9 of the table of refusals.
+fn some_unreached(edges: &[u16], count: usize, flags: &mut [u8]) -> bool
+    requires { ⌜ Edges (length (now flags)) count (now edges) ⌝ }
+    requires { ⌜ 1 ≤ length (now flags) ⌝ }
+    ensures { λ r. ⌜ r ≡ someUnreached (length (now (flags .entry))) (edgesOf (now (edges .entry)) count) ⌝ }
+{
+    flag_reached(edges, count, flags);
+    some_zero(flags)
+}
+
+// The lowest refusal from 5 to 9 that applies, or 0 where the hierarchy is legal.
+fn judge(n: usize, edges: &[u16], count: usize, flags: &mut [u8]) -> u8
+    requires { ⌜ 2 * count ≤ length (now edges) ⌝ }
+    requires { ⌜ length (now flags) ≡ 256 ⌝ }
+    ensures { λ r. ⌜ r ≡ numberOf (refusal (hierarchyChecks n (now (edges .entry)) count)) ⌝ }
+{
+    if n == 0 {
+        return 5;
+    }
+    if 256 < n {
+        return 5;
+    }
+    if 1024 < count {
+        return 6;
+    }
+    if edges_wrong(n, edges, count) {
+        return 7;
+    }
+    if edge_twice(edges, count, &mut flags[..n]) {
+        return 8;
+    }
+    if some_unreached(edges, count, &mut flags[..n]) {
+        return 9;
+    }
+    0
+}
+
+// Walks an unseen node, and returns the next number.
+fn walk(
+    node: usize,
+    next: u16,
+    edges: &[u16],
+    count: usize,
+    marks: &mut [u8],
+    numbers: &mut [u16],
+) -> u16
+    requires { ⌜ Ready node next count (now edges) (now marks) (now numbers) ⌝ }
+    ensures { λ r. ⌜ ((k : ℕ) → zeros (now (marks .entry)) ≤ k → walkAt r (now (marks .exit)) (now (numbers .exit)) ≡ walked k (edgesOf (now (edges .entry)) count) node (walkAt next (now (marks .entry)) (now (numbers .entry)))) ⌝ }
+{
+    marks[node] = 1;
+    let mut at = next;
+    let mut leaf = true;
+    let mut left = count;
+    while 0 < left {
+        let ends = edge_at(edges, count - left);
+        let child = ends.child;
+        left -= 1;
+        if ends.parent == node {
+            leaf = false;
+            if marks[child] == 0 {
+                at = walk(child, at, edges, count, marks, numbers);
+            } else if marks[child] == 1 {
+                if numbers[child] == 0 {
+                    numbers[child] = at;
+                    at += 1;
+                }
+            }
+        }
+    }
+    marks[node] = 2;
+    if leaf {
+        numbers[node] = at;
+        return at + 1;
+    }
+    at
+}
+
+// Sets each number to 0.
+fn clear_numbers(numbers: &mut [u16])
+    ensures { λ _. ⌜ now (numbers .exit) ≡ replicate (length (now (numbers .entry))) 0 ⌝ }
+{
+    let mut i = 0;
+    while i < numbers.len() {
+        numbers[i] = 0;
+        i += 1;
+    }
+}
+
+// Numbers the nodes by a walk from the root.
+fn number(edges: &[u16], count: usize, marks: &mut [u8], numbers: &mut [u16])
+    requires { ⌜ Fresh (length (now marks)) count (now edges) (now numbers) ⌝ }
+    ensures { λ _. ⌜ now (numbers .exit) ≡ numbering (length (now (marks .entry))) (edgesOf (now (edges .entry)) count) ⌝ }
+{
+    clear(marks);
+    clear_numbers(numbers);
+    walk(0, 1, edges, count, marks, numbers);
+}
+
+// A number, with the largest u16 in the place of none.
+fn or_most(number: u16) -> u16
+    ensures { λ r. ⌜ r ≡ orMost number ⌝ }
+{
+    if number == 0 {
+        return 65535;
+    }
+    number
+}
+
+// Spreads the numbers of the first half over the whole table, for each node what low and high start from. Goes down, so that no number
+// is lost before it is read.
+fn interleave(n: usize, table: &mut [u16])
+    requires { ⌜ length (now table) ≡ 2 * n ⌝ }
+    ensures { λ _. ⌜ now (table .exit) ≡ doubled (take n (now (table .entry))) ⌝ }
+{
+    let mut node = n;
+    while 0 < node {
+        node -= 1;
+        let number = table[node];
+        table[2 * node + 1] = number;
+        table[2 * node] = or_most(number);
+    }
+}
+
+// Whether x is better than y: greater where up is true, less where it is not.
+fn better(up: bool, x: u16, y: u16) -> bool
+    ensures { λ r. ⌜ r ≡ isBetter up x y ⌝ }
+{
+    if up {
+        return y < x;
+    }
+    x < y
+}
+
+// One place takes another's value where that is better. Says whether it did.
+fn improve(up: bool, to: usize, from: usize, table: &mut [u16]) -> bool
+    requires { ⌜ to < length (now table) ⌝ }
+    requires { ⌜ from < length (now table) ⌝ }
+    ensures { λ r. ⌜ r ≡ isBetter up (getD (now (table .entry)) from 0) (getD (now (table .entry)) to 0) ⌝ }
+    ensures { λ _. ⌜ now (table .exit) ≡ improved up to from (now (table .entry)) ⌝ }
+{
+    let value = table[from];
+    if better(up, value, table[to]) {
+        table[to] = value;
+        return true;
+    }
+    false
+}
+
+// One pass over the edges: a parent takes its child's low where that is less, and its high where that is greater. Says whether any did.
+fn relax_once(edges: &[u16], count: usize, table: &mut [u16]) -> bool
+    requires { ⌜ Edges (length (lows (now table))) count (now edges) ⌝ }
+    ensures { λ _. ⌜ lows (now (table .exit)) ≡ relax false (edgesOf (now (edges .entry)) count) (lows (now (table .entry))) ⌝ }
+    ensures { λ _. ⌜ highs (now (table .exit)) ≡ relax true (edgesOf (now (edges .entry)) count) (highs (now (table .entry))) ⌝ }
+    ensures { λ r. ⌜ Went tableWeight r (now (table .entry)) (now (table .exit)) ⌝ }
+{
+    let mut changed = false;
+    let mut e = 0;
+    while e < count {
+        let ends = edge_at(edges, e);
+        let to = 2 * ends.parent;
+        let from = 2 * ends.child;
+        e += 1;
+        let low = improve(false, to, from, table);
+        let high = improve(true, to + 1, from + 1, table);
+        changed = changed | low | high;
+    }
+    changed
+}
+
+// Gives each node the least low and the greatest high that it reaches.
+fn settle(edges: &[u16], count: usize, table: &mut [u16])
+    requires { ⌜ Edges (length (lows (now table))) count (now edges) ⌝ }
+    ensures { λ _. ⌜ Best false (edgesOf (now (edges .entry)) count) (lows (now (table .entry))) (lows (now (table .exit))) ⌝ }
+    ensures { λ _. ⌜ Best true (edgesOf (now (edges .entry)) count) (highs (now (table .entry))) (highs (now (table .exit))) ⌝ }
+{
+    let mut on = true;
+    while on {
+        on = relax_once(edges, count, table);
+    }
+}
+
+// Writes the intervals of n nodes of a legal hierarchy.
+fn write_intervals(n: usize, edges: &[u16], count: usize, table: &mut [u16], marks: &mut [u8])
+    requires { ⌜ Writable n count (now edges) (now table) (now marks) ⌝ }
+    ensures { λ _. ⌜ now (table .exit) ≡ intervalTable n (edgesOf (now (edges .entry)) count) ⌝ }
+{
+    number(edges, count, marks, &mut table[..n]);
+    interleave(n, table);
+    settle(edges, count, table);
+}
+
+// Zeroes the part of the scratch that building may use.
+fn wipe(scratch: &mut [u8])
+    requires { ⌜ 2048 ≤ length (now scratch) ⌝ }
+    ensures { λ _. ⌜ now (scratch .exit) ≡ over (replicate 2048 0) (now (scratch .entry)) ⌝ }
+{
+    clear(&mut scratch[..2048]);
+}
+
+// Builds the intervals of n nodes.
+pub fn build(
+    n: usize,
+    edges: &[u16],
+    count: usize,
+    places: &mut [u16],
+    scratch: &mut [u8],
+) -> BuildAnswer
+    ensures { λ r. ⌜ buildMeaning r ≡ (buildStep n (now (edges .entry)) count (now (places .entry)) (now (scratch .entry))) .answer ⌝ }
+    ensures { λ _. ⌜ now (places .exit) ≡ (buildStep n (now (edges .entry)) count (now (places .entry)) (now (scratch .entry))) .places ⌝ }
+    ensures { λ _. ⌜ now (scratch .exit) ≡ (buildStep n (now (edges .entry)) count (now (places .entry)) (now (scratch .entry))) .scratch ⌝ }
+{
+    if places.len() / 2 < n {
+        return BuildAnswer::Refused(1);
+    }
+    if edges.len() / 2 < count {
+        return BuildAnswer::Refused(1);
+    }
+    if scratch.len() < 2048 {
+        return BuildAnswer::Refused(1);
+    }
+    let refusal = judge(n, edges, count, &mut scratch[..256]);
+    if refusal != 0 {
+        wipe(scratch);
+        return BuildAnswer::Refused(refusal);
+    }
+    write_intervals(n, edges, count, &mut places[..2 * n], &mut scratch[..n]);
+    wipe(scratch);
+    BuildAnswer::Built
+}
+
+// The less of two numbers.
+fn lesser(x: u16, y: u16) -> u16
+    ensures { λ r. ⌜ r ≡ min x y ⌝ }
+{
+    if x <= y {
+        return x;
+    }
+    y
+}
+
+// The greater of two numbers.
+fn greater(x: u16, y: u16) -> u16
+    ensures { λ r. ⌜ r ≡ max x y ⌝ }
+{
+    if x <= y {
+        return y;
+    }
+    x
+}
+
+// The call's interval: from the least low to the greatest high of its names.
+fn call_interval(intervals: &[u16], names: &[u16]) -> Interval
+    ensures { λ r. ⌜ r ≡ callInterval (now (intervals .entry)) (now (names .entry)) ⌝ }
+{
+    if names.len() == 0 {
+        return Interval { low: 0, high: 0 };
+    }
+    let mut call = interval_at(intervals, names[0] as usize);
+    let mut i = 1;
+    while i < names.len() {
+        let next = interval_at(intervals, names[i] as usize);
+        i += 1;
+        call = Interval {
+            low: lesser(call.low, next.low),
+            high: greater(call.high, next.high),
+        };
+    }
+    call
+}
+
+// Whether an interval contains another.
+fn contains(outer: Interval, inner: Interval) -> bool
+    ensures { λ r. ⌜ r ≡ containing outer inner ⌝ }
+{
+    if outer.low <= inner.low {
+        return inner.high <= outer.high;
+    }
+    false
+}
+
+// How wide an interval is.
+fn width(a: Interval) -> u16
+    ensures { λ r. ⌜ r ≡ widthOf a ⌝ }
+{
+    if a.low <= a.high {
+        return a.high - a.low;
+    }
+    0
+}
+
+// Whether the search steps from the present node to one with the given interval.
+fn leads_on(interval: Interval, call: Interval, present: Interval) -> bool
+    ensures { λ r. ⌜ r ≡ (containing interval call && ltb (widthOf interval) (widthOf present)) ⌝ }
+{
+    if contains(interval, call) {
+        return width(interval) < width(present);
+    }
+    false
+}
+
+// The child that the search steps to, or the present node where there is none.
+fn step(intervals: &[u16], edges: &[u16], count: usize, call: Interval, present: usize) -> usize
+    ensures { λ r. ⌜ r ≡ stepOr (λ child. child) present (firstWithin (now (intervals .entry)) call present (children (edgesOf (now (edges .entry)) count) present)) ⌝ }
+{
+    let whole = whole_edges(edges, count);
+    let around = interval_at(intervals, present);
+    let mut e = 0;
+    while e < whole {
+        let ends = edge_at(edges, e);
+        let child = ends.child;
+        e += 1;
+        if ends.parent == present {
+            if leads_on(interval_at(intervals, child), call, around) {
+                return child;
+            }
+        }
+    }
+    present
+}
+
+// The search for the cover of a call's interval, from the root on.
+fn search(intervals: &[u16], edges: &[u16], count: usize, call: Interval) -> usize
+    ensures { λ r. ⌜ r ≡ coverOfInterval (now (intervals .entry)) (edgesOf (now (edges .entry)) count) call ⌝ }
+{
+    let mut present = 0;
+    loop {
+        let next = step(intervals, edges, count, call, present);
+        if next == present {
+            return present;
+        }
+        present = next;
+    }
+}
+
+// The cover of a call.
+pub fn cover(intervals: &[u16], edges: &[u16], count: usize, names: &[u16]) -> u16
+    ensures { λ r. ⌜ r ≡ coverOf (now (intervals .entry)) (edgesOf (now (edges .entry)) count) (now (names .entry)) ⌝ }
+{
+    let call = call_interval(intervals, names);
+    search(intervals, edges, count, call) as u16
 }

@@ -1,0 +1,6 @@
+// The paper's cases that are no theorems: a line for each, compared with the file `stdout`.
+mod hierarchy;
+
+fn main() {
+    hierarchy::run();
+}

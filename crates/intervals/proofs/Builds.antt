@@ -1,0 +1,104 @@
+-- Building: what it leaves after each of its ends. Assumes nothing.
+use mathlib.Core.Path.{_≡_, refl, sym, ap, _∙_}
+use mathlib.Core.List.{List, [], _∷_, _++_}
+use mathlib.Core.Bool.{true, false}
+use mathlib.Core.Option.{Option, none, some}
+use Prim.Native.Nat.{ℕ, _+_, _*_, _-_, _/_, _≤_, _<_}
+use native.Mathlib.Omega.{arith}
+use lib.ListN.{length, take, drop, replicate, length-replicate}
+use lib.Seq.{length-take-le, drop-append-add, drop-drop}
+use borrow.Author.Tests.{lt-ltb, le-ltb}
+use Rattle.intervals.specs.Lists.{over}
+use Rattle.intervals.specs.Answer.{done, refused, Check, _when_, refusal}
+use Rattle.intervals.specs.Hierarchy.{edgesOf, hierarchyChecks, Legal}
+use Rattle.intervals.specs.Intervals.{intervalTable}
+use Rattle.intervals.specs.Build.{buildShort, buildStep}
+use Rattle.intervals.specs.Inner.{numberOf}
+use Rattle.intervals.proofs.Bools.{bool}
+use Rattle.intervals.proofs.Refusals.{refused-here, refused-later}
+
+-- ---- parts that came back
+
+-- a first part that came back leaves what stands behind it
+pub behind : (size n : ℕ) (part l : List ℕ) → n ≤ size → n ≤ length l → length part ≡ length (take n l) → drop size (part ++ drop n l) ≡ drop size l
+behind size n part l h g e =
+    let k : length part ≡ n = e ∙ length-take-le n l g in
+    let s : size ≡ length part + (size - n) = omega arith in
+    let t : n + (size - n) ≡ size = omega arith in
+    ap (λ (m : ℕ). drop m (part ++ drop n l)) s ∙ drop-append-add part (drop n l) (size - n) ∙ drop-drop (size - n) n l ∙ ap (λ (m : ℕ). drop m l) t
+
+-- a first part that was written
+pub laid : (size : ℕ) (table part l : List ℕ) → part ≡ table → size ≤ length l → length part ≡ length (take size l) → part ++ drop size l ≡ over table l
+unfolding over
+laid size table part l e h k = rw (← e, ← k ∙ length-take-le size l h) refl
+
+-- zeros over what differs only where they stand
+pub zeroed : (size : ℕ) (l l₀ : List ℕ) → drop size l ≡ drop size l₀ → over (replicate size 0) l ≡ over (replicate size 0) l₀
+unfolding over
+zeroed size l l₀ d = rw (length-replicate {A = ℕ} size 0, d) refl
+
+-- ---- the refusals
+
+-- the numbers of a list of checks are from 1 on
+abbrev FromOne : List Check → Type 0
+FromOne [] = Unit {0}
+FromOne (c ∷ cs) = (1 ≤ c .number) × FromOne cs
+
+-- so that 0 says that none holds
+none-of : (cs : List Check) → FromOne cs → 0 ≡ numberOf (refusal cs) → refusal cs ≡ none
+unfolding refusal
+none-of [] f e = refl
+none-of (c ∷ cs) f e =
+    bool (c .holds)
+    (λ h. absurd (let s = ap numberOf (refused-here c cs h) in omega (arith, f .0)))
+    (λ h. let s = refused-later c cs h in s ∙ none-of cs (f .1) (e ∙ ap numberOf s))
+
+some-of : (o : Option ℕ) (k : ℕ) → k ≡ numberOf o → (k ≡ 0 → ⊥) → o ≡ some k
+some-of none k e d = absurd (d e)
+some-of (some j) k e d = ap some (sym e)
+
+module _ (n : ℕ) (edges : List ℕ) (count : ℕ) where
+  pub legal-of : 0 ≡ numberOf (refusal (hierarchyChecks n edges count)) → Legal n edges count
+  legal-of e = none-of (hierarchyChecks n edges count) (omega arith, (omega arith, (omega arith, (omega arith, (omega arith, tt))))) e
+
+  module _ (places scratch : List ℕ) where
+    -- 1, by division
+    pub short-places : length places / 2 < n → buildShort n edges count places scratch ≡ true
+    short-places h = rw (lt-ltb (length places) (2 * n) (omega arith)) refl
+
+    pub short-edges : n ≤ length places / 2 → length edges / 2 < count → buildShort n edges count places scratch ≡ true
+    short-edges g h = rw (le-ltb (length places) (2 * n) (omega arith), lt-ltb (length edges) (2 * count) (omega arith)) refl
+
+    pub short-scratch : n ≤ length places / 2 → count ≤ length edges / 2 → length scratch < 2048 → buildShort n edges count places scratch ≡ true
+    short-scratch g f h = rw (le-ltb (length places) (2 * n) (omega arith), le-ltb (length edges) (2 * count) (omega arith), lt-ltb (length scratch) 2048 h) refl
+
+    pub long-enough : n ≤ length places / 2 → count ≤ length edges / 2 → 2048 ≤ length scratch → buildShort n edges count places scratch ≡ false
+    long-enough g f h = rw (le-ltb (length places) (2 * n) (omega arith), le-ltb (length edges) (2 * count) (omega arith), le-ltb (length scratch) 2048 h) refl
+
+    -- what is left after 1
+    pub left-short : buildShort n edges count places scratch ≡ true
+        → (refused 1 ≡ buildStep n edges count places scratch .answer)
+        × ((places ≡ buildStep n edges count places scratch .places) × (scratch ≡ buildStep n edges count places scratch .scratch))
+    unfolding buildStep
+    left-short h =
+        let r = refused-here (1 when buildShort n edges count places scratch) (hierarchyChecks n edges count) h in
+        rw (r, h) (refl, (refl, refl))
+
+    module _ (h : buildShort n edges count places scratch ≡ false) (scratch′ : List ℕ) (wiped : scratch′ ≡ over (replicate 2048 0) scratch) where
+      -- after another refusal
+      pub left-refused : (k : ℕ) → k ≡ numberOf (refusal (hierarchyChecks n edges count)) → (k ≡ 0 → ⊥)
+          → (refused k ≡ buildStep n edges count places scratch .answer)
+          × ((places ≡ buildStep n edges count places scratch .places) × (scratch′ ≡ buildStep n edges count places scratch .scratch))
+      unfolding buildStep
+      left-refused k e d =
+          let r = refused-later (1 when buildShort n edges count places scratch) (hierarchyChecks n edges count) h ∙ some-of (refusal (hierarchyChecks n edges count)) k e d in
+          rw (r, h) (refl, (refl, wiped))
+
+      -- after building
+      pub left-built : Legal n edges count → (places′ : List ℕ) → places′ ≡ over (intervalTable n (edgesOf edges count)) places
+          → (done tt ≡ buildStep n edges count places scratch .answer)
+          × ((places′ ≡ buildStep n edges count places scratch .places) × (scratch′ ≡ buildStep n edges count places scratch .scratch))
+      unfolding buildStep
+      left-built legal places′ p =
+          let r = refused-later (1 when buildShort n edges count places scratch) (hierarchyChecks n edges count) h ∙ legal in
+          rw (r, h) (refl, (p, wiped))

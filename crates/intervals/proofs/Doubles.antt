@@ -1,0 +1,67 @@
+-- The table that relaxing starts from, made in place: the numbers of its first half are spread over the whole, from the last down. Assumes nothing.
+use mathlib.Core.Path.{_≡_, refl, sym, ap, _∙_}
+use mathlib.Core.List.{List, _∷_}
+use Prim.Native.Nat.{ℕ, suc, _+_, _*_, _-_, _≤_, _<_}
+use native.Mathlib.Omega.{arith}
+use lib.ListN.{length, getD, set, take, drop, length-set, drop-of-length-le}
+use lib.Seq.{drop-cons, drop-set-lt, getD-set-same, getD-set-other, getD-take, length-take-le}
+use Rattle.intervals.specs.Inner.{orMost, doubled}
+
+-- two stores, side by side
+two-set : (l : List ℕ) (i low high : ℕ) → 2 * i + 1 < length l → drop (2 * i) (set (set l (2 * i + 1) high) (2 * i) low) ≡ low ∷ high ∷ drop (2 * (i + 1)) l
+two-set l i low high h =
+    let a : length (set l (2 * i + 1) high) ≡ length l = length-set l (2 * i + 1) high in
+    let b : length (set (set l (2 * i + 1) high) (2 * i) low) ≡ length l = length-set (set l (2 * i + 1) high) (2 * i) low ∙ a in
+    let m : suc (2 * i) ≡ 2 * i + 1 = omega arith in
+    let n : suc (2 * i + 1) ≡ 2 * (i + 1) = omega arith in
+    drop-cons (set (set l (2 * i + 1) high) (2 * i) low) (2 * i) 0 (omega arith)
+    ∙ rw (getD-set-same (set l (2 * i + 1) high) (2 * i) low 0 (omega arith), drop-set-lt (suc (2 * i)) (set l (2 * i + 1) high) (2 * i) low (omega arith), m)
+    (ap (λ (t : List ℕ). low ∷ t)
+    (drop-cons (set l (2 * i + 1) high) (2 * i + 1) 0 (omega arith)
+    ∙ rw (getD-set-same l (2 * i + 1) high 0 h, drop-set-lt (suc (2 * i + 1)) l (2 * i + 1) high (omega arith), n) refl))
+
+-- the loop, at a node: the numbers before it still stand, and from its place on all is done
+pub record Doubling (n : ℕ) (table₀ : List ℕ) (node : ℕ) (table : List ℕ) : Type 0 where
+  pub so-far : node ≤ n
+  pub long : length table ≡ length table₀
+  pub front : (i : ℕ) → i < node → getD table i 0 ≡ getD table₀ i 0
+  pub back : drop (2 * node) table ≡ doubled (drop node (take n table₀))
+
+module _ (n : ℕ) (table₀ : List ℕ) (whole : length table₀ ≡ 2 * n) where
+  half : length (take n table₀) ≡ n
+  half = length-take-le n table₀ (omega arith)
+
+  pub doubling-start : Doubling n table₀ n table₀
+  unfolding doubled
+  doubling-start =
+      record {
+        so-far = omega arith;
+        long = refl;
+        front = λ i h. refl;
+        back = rw (drop-of-length-le table₀ {i = 2 * n} (omega arith), drop-of-length-le (take n table₀) {i = n} (omega (arith, half))) refl;
+      }
+
+  module _ (node : ℕ) (table : List ℕ) (d : Doubling n table₀ node table) where
+    pub doubling-more : (low : ℕ) → 0 < node → low ≡ orMost (getD table (node - 1) 0)
+        → Doubling n table₀ (node - 1) (set (set table (2 * (node - 1) + 1) (getD table (node - 1) 0)) (2 * (node - 1)) low)
+    unfolding doubled
+    doubling-more low h e =
+        let k : ℕ = node - 1 in
+        let x : ℕ = getD table k 0 in
+        let s : k + 1 ≡ node = omega arith in
+        let r : suc k ≡ node = omega arith in
+        let same : x ≡ getD (take n table₀) k 0 = d .front k (omega arith) ∙ sym (getD-take n table₀ k 0 (omega (arith, d .so-far))) in
+        record {
+          so-far = omega (arith, d .so-far);
+          long = length-set (set table (2 * k + 1) x) (2 * k) low ∙ length-set table (2 * k + 1) x ∙ d .long;
+          front = λ i l.
+              getD-set-other (set table (2 * k + 1) x) (2 * k) i low 0 (λ q. omega arith)
+              ∙ getD-set-other table (2 * k + 1) i x 0 (λ q. omega arith)
+              ∙ d .front i (omega arith);
+          back =
+              two-set table k low x (omega (arith, d .long, d .so-far))
+              ∙ rw (s, d .back, e, same) (sym (ap doubled (drop-cons (take n table₀) k 0 (omega (arith, half, d .so-far)) ∙ ap (λ (j : ℕ). getD (take n table₀) k 0 ∷ drop j (take n table₀)) r)));
+        }
+
+    pub doubling-end : node ≡ 0 → table ≡ doubled (take n table₀)
+    doubling-end z = rw z at (d .back)

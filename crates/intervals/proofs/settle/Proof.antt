@@ -1,0 +1,45 @@
+-- `settle` meets its contract: passes go on until the table stands still. Assumes nothing.
+use Rattle.intervals.specs.Hierarchy.{edgesOf}
+use Rattle.intervals.specs.Inner.{oneIf, tableWeight}
+use Rattle.intervals.proofs.Passes.{went-less}
+use Rattle.intervals.proofs.Tables.{Settling, settling-start, settling-more, settling-end}
+use Rattle.intervals.proofs.settle.Statement.{statement}
+use Rattle.intervals.proofs.settle.Tie as tie
+
+abbrev Inv-loop : tie.InvT-loop
+Inv-loop edges count table₀ on₀ table on = Settling (edgesOf edges count) table₀ on table
+
+abbrev μ-loop : tie.MeasureT-loop
+μ-loop edges count table₀ on₀ table on = oneIf on (tableWeight table)
+
+loop-holds : tie.Need-loop-holds Inv-loop μ-loop
+loop-holds c = settling-start _ _
+
+relax-once-requires : tie.Need-relax-once-requires Inv-loop μ-loop
+relax-once-requires c κs = rw (c .before .before .loop .inv .lower .long) (c .before .before .before .before .before .pre)
+
+loop-less : tie.Need-loop-less Inv-loop μ-loop
+loop-less c = went-less tableWeight _ (c .before .before .relax-once .result) _ (c .before .before .relax-once .last .1 .1 .0) (c .before .before .before .before .loop-test .taken) (c .before .before .relax-once .ensures .1 .1)
+
+loop-again : tie.Need-loop-again Inv-loop μ-loop
+loop-again c = settling-more _ _ _ (c .before .before .relax-once .result) _ (c .before .before .relax-once .last .1 .1 .0) (c .before .before .before .before .before .loop .inv) (c .before .before .relax-once .kept .1 .1 .0)
+    (c .before .before .relax-once .ensures .0) (c .before .before .relax-once .ensures .1 .0) (c .before .before .relax-once .ensures .1 .1)
+
+same-length : tie.Need-same-length Inv-loop μ-loop
+same-length c = c .before .loop .inv .long
+
+returns : tie.Need-returns Inv-loop μ-loop
+returns c = settling-end _ _ _ _ _ (c .before .before .before .before .pre) (c .before .loop .inv) (c .loop-test .left)
+
+pub settle-spec : {M : Type 1} → statement M
+settle-spec =
+    tie.close
+    (tie.spec
+    Inv-loop
+    μ-loop
+    loop-holds
+    relax-once-requires
+    loop-less
+    loop-again
+    same-length
+    returns)
