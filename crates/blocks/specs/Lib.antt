@@ -3,3 +3,4 @@ pub mod Bytes
 pub mod Record
 pub mod Block
 pub mod File
+pub mod Inner

@@ -1,0 +1,8 @@
+-- What the proofs of several functions use; the theorems of the crate block_laws cite some of it.
+pub mod Numbers
+mod Words
+pub mod Writes
+pub mod Stages
+mod Copies
+pub mod Making
+pub mod Answers

@@ -1,0 +1,53 @@
+-- `after_block` meets its contract: a refusal stays, the check is judged first, then all else. Assumes nothing.
+use lib.Dec.{eqb}
+use mathlib.Core.Path.{sym, _∙_}
+use native.Mathlib.Omega.{arith}
+use lib.ListN.{length-drop}
+use borrow.Author.Tests.{not-true, not-false, lt-leb, le-leb}
+use lib.Seq.{length-take-le}
+use Rattle.blocks.specs.Block.{afterBlock}
+use Rattle.blocks.proofs.Stages.{part-to-end, head-facts}
+use borrow.Author.Needs.{needs}
+use Rattle.blocks.proofs.after_block.Statement.{statement}
+use Rattle.blocks.proofs.after_block.Tie as tie
+
+returns : tie.Need-returns
+unfolding afterBlock
+returns c = simp (le-leb _ _ (c .if1 .taken))
+
+slice-aggregate-block-check : tie.Need-slice-aggregate-block-check
+slice-aggregate-block-check c = sym (length-take-le _ (c .before .before .before .args .block .now) (omega arith))
+
+returns-2 : tie.Need-returns-2
+unfolding afterBlock
+returns-2 c = simp (lt-leb _ _ (c .before .before .before .before .before .if1 .left), sym (c .before .before .number4 .ensures), sym (c .before .before .before .block-check .ensures), not-true (eqb (c .before .before .number4 .result) (c .before .before .before .block-check .result)) (c .if2 .taken))
+
+returns-3 : tie.Need-returns-3
+unfolding afterBlock
+returns-3 c = simp (lt-leb _ _ (c .before .before .before .before .before .before .if1 .left), sym (c .before .before .before .number4 .ensures), sym (c .before .before .before .before .block-check .ensures), not-false (eqb (c .before .before .before .number4 .result) (c .before .before .before .before .block-check .result)) (c .before .if2 .left), sym (c .before .before .head-right .ensures) ∙ not-true _ (c .if3 .taken))
+
+after-records-requires : tie.Need-after-records-requires
+after-records-requires c κs = rw part-to-end (simp length-drop (omega (arith, head-facts _ _ _ (sym (c .before .before .before .before .head-right .ensures) ∙ not-false _ (c .before .before .if3 .left)) .high)))
+
+returns-4 : tie.Need-returns-4
+unfolding afterBlock
+returns-4 c = c .after-records .ensures ∙ simp (lt-leb _ _ (c .before .before .before .before .before .before .before .before .before .if1 .left), sym (c .before .before .before .before .before .before .number4 .ensures), sym (c .before .before .before .before .before .before .before .block-check .ensures), not-false (eqb (c .before .before .before .before .before .before .number4 .result) (c .before .before .before .before .before .before .before .block-check .result)) (c .before .before .before .before .if2 .left), sym (c .before .before .before .before .before .head-right .ensures) ∙ not-false _ (c .before .before .before .if3 .left), sym (c .before .before .number2 .ensures .0), part-to-end)
+
+pub after-block-spec : {M : Type 1} → statement M
+after-block-spec =
+    tie.close
+    (tie.spec
+    returns
+    slice-aggregate-block-check
+    (λ c κs. search needs)
+    (λ c κs. search needs)
+    (λ c κs. search needs)
+    returns-2
+    returns-3
+    (λ c κs. search needs)
+    (λ c. search needs)
+    (λ c. search needs)
+    (λ c. search needs)
+    (λ c. search needs)
+    after-records-requires
+    returns-4)
