@@ -2,3 +2,5 @@
 pub mod Stages
 pub mod Queues
 pub mod Sweeps
+pub mod Judging
+pub mod Answering

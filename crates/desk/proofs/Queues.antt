@@ -1,15 +1,19 @@
 -- The 32 places of an arrival list: one party more, and what is read back. Assumes nothing.
 use mathlib.Core.Path.{_≡_, refl, sym, ap, _∙_}
 use mathlib.Core.List.{List, [], _∷_, _++_, append-assoc, append-nil}
-use mathlib.Core.Bool.{Bool, true, false}
+use mathlib.Core.Bool.{Bool, true, false, not}
 use Prim.Native.Nat.{ℕ, zero, suc, _+_, _-_, _≤_, _<_}
 use native.Mathlib.Numerals.{add-one}
 use native.Mathlib.Omega.{arith}
-use lib.ListN.{length, getD, take, drop, set, replicate, length-append, length-replicate}
-use lib.Seq.{take-suc, take-append-seam, length-take-le, take-take, take-at}
+use lib.Dec.{eqb, ltb}
+use lib.ListN.{length, getD, take, drop, set, replicate, length-append, length-replicate, length-take}
+use borrow.Author.Tests.{ltb-true, ltb-false}
+use lib.Seq.{set-out, take-suc, take-append-seam, length-take-le, take-take, take-at}
 use Rattle.intervals.specs.Lists.{keep, keptIf}
 use Rattle.intervals.proofs.Bools.{bool}
+use Rattle.desk.specs.declared.Desk.{Desk}
 use Rattle.desk.specs.Desks.{queuePlaces}
+use Rattle.desk.specs.Inner.{othersOf}
 
 take-zeros : (m k : ℕ) → m ≤ k → _≡_ {A = List ℕ} (take m (replicate k 0)) (replicate m 0)
 take-zeros zero k h = refl
@@ -102,3 +106,22 @@ module _ (p : ℕ → Bool) (queue places : List ℕ) (count i : ℕ) (h : i < l
       let same : keep p (take (i + 1) queue) ≡ keep p (take i queue)
       = keep-more p queue i h ∙ ap (λ (b : Bool). keep p (take i queue) ++ keptIf b (getD queue i 0) []) e ∙ append-nil (keep p (take i queue)) in
       record { stored = k .stored ∙ ap queuePlaces (sym same); counted = k .counted ∙ ap length (sym same) }
+
+-- a party goes last, or nowhere where the list is full
+pub places-last : (l : List ℕ) (x : ℕ) → length l ≤ 32 → set (queuePlaces l) (length l) x ≡ queuePlaces (l ++ (x ∷ []))
+places-last l x h =
+    bool (ltb (length l) 32)
+    (λ e. places-push l x (ltb-true (length l) 32 e))
+    (λ e.
+    let g : 32 ≤ length l = ltb-false (length l) 32 e in
+    set-out (queuePlaces l) (length l) x (omega (arith, places-length l)) ∙ places-full l x (omega arith))
+
+-- the arrival list is as long as its count says
+pub queue-length : (queue : List ℕ) (waiting : ℕ) → length queue ≡ 32 → waiting ≤ 32 → length (take waiting queue) ≡ waiting
+queue-length queue waiting e h = length-take-le waiting queue (omega arith)
+
+-- the others in an arrival list are no more than it has places
+pub others-few : (d : Desk) (party : ℕ) → d .waiting ≤ 32 → length (othersOf d party) ≤ 32
+others-few d party h =
+    let n : length (take (d .waiting) (d .queue)) ≤ d .waiting = simp length-take (omega arith) in
+    omega (arith, keep-few (λ other. not (eqb other party)) (take (d .waiting) (d .queue)))

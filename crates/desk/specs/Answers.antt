@@ -1,4 +1,6 @@
 -- What each case of the steps' answers is in the paper: its number and values. Assumes nothing.
+use mathlib.Core.Path.{_≡_}
+use mathlib.Core.List.{List}
 use mathlib.Core.Bool.{Bool, true, false}
 use Prim.Native.Nat.{ℕ}
 use lib.Dec.{eqb}
@@ -11,7 +13,11 @@ use Rattle.desk.specs.declared.PutAnswer.{PutAnswer}
 use Rattle.desk.specs.declared.PutAnswer.the-variants.{Stored, Refused as PutRefused}
 use Rattle.desk.specs.declared.LeaveAnswer.{LeaveAnswer}
 use Rattle.desk.specs.declared.LeaveAnswer.the-variants.{Left, Refused as LeaveRefused}
-use Rattle.desk.specs.Steps.{Admission, granted, waits}
+use Rattle.desk.specs.declared.EnterStep.{EnterStep}
+use Rattle.desk.specs.declared.GetStep.{GetStep}
+use Rattle.desk.specs.declared.PutStep.{PutStep}
+use Rattle.desk.specs.declared.LeaveStep.{LeaveStep}
+use Rattle.desk.specs.Steps.{Admission, granted, waits, EnterResult, GetResult, PutResult, LeaveResult}
 
 -- granted with the cover, waits, or refused
 abbrev pub enterMeaning : EnterAnswer → Answer Admission
@@ -44,3 +50,19 @@ getRefusedCase false k = GetRefused k
 abbrev pub getCase : Answer ℕ → GetAnswer
 getCase (done value) = Value value
 getCase (refused k) = getRefusedCase (eqb k 14) k
+
+-- WHAT A METHOD PROMISES: it hands back the desk of the definition, and its answer means the definition's. Of enter
+abbrev pub Enters : EnterStep → EnterResult → Type 0
+Enters r s = (r .desk ≡ s .desk) × (enterMeaning (r .answer) ≡ s .answer)
+
+-- of get; the case is pinned too
+abbrev pub Gets : GetStep → GetResult → Type 0
+Gets r s = (r .desk ≡ s .desk) × (getMeaning (r .answer) ≡ s .answer) × (r .answer ≡ getCase (s .answer))
+
+-- of put, with the values that it leaves
+abbrev pub Puts : PutStep → List ℕ → PutResult → Type 0
+Puts r values s = (r .desk ≡ s .desk) × (putMeaning (r .answer) ≡ s .answer) × (values ≡ s .values)
+
+-- of leave, with the list that it leaves
+abbrev pub Leaves : LeaveStep → List ℕ → LeaveResult → Type 0
+Leaves r list s = (r .desk ≡ s .desk) × (leaveMeaning (r .answer) ≡ s .answer) × (list ≡ s .list)

@@ -1,19 +1,21 @@
 -- Terms of the contracts of private functions only: no definition of the paper is here. Assumes nothing.
-use mathlib.Core.List.{List, []}
+use mathlib.Core.List.{List, [], _∷_}
 use mathlib.Core.Bool.{Bool, true, false, not, _||_}
 use mathlib.Core.Path.{_≡_}
+use mathlib.Core.Option.{Option, some}
 use Prim.Native.Nat.{ℕ, _+_}
-use lib.Dec.{eqb}
+use lib.Dec.{eqb, ltb}
 use lib.ListN.{length, set}
 use Rattle.intervals.specs.Lists.{keep, over}
+use Rattle.intervals.specs.Answer.{Check, _when_, refusal}
 use Rattle.desk.specs.declared.Lock.{Lock}
 use Rattle.desk.specs.declared.Stage.{Stage}
 use Rattle.desk.specs.declared.Stage.the-variants.{Out, Waiting, Holding}
 use Rattle.desk.specs.declared.Entry.{Entry}
 use Rattle.desk.specs.declared.Desk.{Desk}
 use Rattle.desk.specs.declared.Swept.{Swept}
-use Rattle.desk.specs.Desks.{entryOf, queueOf, queuePlaces, meetsHolder, meetsWaiter}
-use Rattle.desk.specs.Steps.{Sweep, sweep}
+use Rattle.desk.specs.Desks.{Hierarchy, lent, entryOf, stageAt, isOut, isWaiting, queueOf, queuePlaces, meetsHolder, meetsWaiter}
+use Rattle.desk.specs.Steps.{stepChecks, insideHold, Sweep, sweep}
 
 -- a party at this stage waits, and is granted on these entries, with these still waiting before it
 abbrev pub mayGo : List Entry → List ℕ → Stage → Bool
@@ -52,3 +54,41 @@ pub record Sweeps (d : Desk) (parties : List ℕ) (r : Swept) (list list′ : Li
   pub desk : r .desk ≡ sweptDesk (sweepOf d parties) (d .grants)
   pub granted : r .granted ≡ length ((sweepOf d parties) .granted)
   pub listed : list′ ≡ over ((sweepOf d parties) .granted) list
+
+-- the one or the other
+abbrev pub pickRefusal : Bool → ℕ → Option ℕ → Option ℕ
+pickRefusal true k own = own
+pickRefusal false k own = some k
+
+-- what is left to look at where the checks of every step gave k: 0 says that none of them holds
+abbrev pub refusalAfter : ℕ → Option ℕ → Option ℕ
+refusalAfter k own = pickRefusal (eqb k 0) k own
+
+-- the tables of a hierarchy that only the intervals matter of
+abbrev pub spanned : ℕ → List ℕ → Hierarchy
+spanned n intervals = lent n intervals [] 0
+
+-- a step is refused with k before it looks at its own checks, or with none of those (0)
+abbrev pub Judged : Hierarchy → Desk → ℕ → Bool → ℕ → Type 0
+Judged H d party short k = (own : List Check) → refusal (stepChecks H d party short own) ≡ refusalAfter k (refusal own)
+
+-- of what get and put look at besides
+abbrev pub nodeChecks : Hierarchy → Desk → ℕ → ℕ → List Check → List Check
+nodeChecks H d party node own =
+    13 when isOut (stageAt d party)
+    ∷ 14 when isWaiting (stageAt d party)
+    ∷ 15 when not (ltb node (H .n))
+    ∷ 16 when not (insideHold H node (stageAt d party))
+    ∷ own
+
+-- the same of these
+abbrev pub NodeJudged : Hierarchy → Desk → ℕ → ℕ → ℕ → Type 0
+NodeJudged H d party node k = (own : List Check) → refusal (nodeChecks H d party node own) ≡ refusalAfter k (refusal own)
+
+-- the desk with a party out, and nobody in its arrival list
+abbrev pub goneDesk : Desk → ℕ → Desk
+goneDesk d party = record { entries = set (d .entries) party (entryOf Out); queue = queuePlaces []; waiting = 0; grants = d .grants }
+
+-- the desk with another count of grants
+abbrev pub withGrants : Desk → ℕ → Desk
+withGrants d grants = record { entries = d .entries; queue = d .queue; waiting = d .waiting; grants = grants }

@@ -2,15 +2,17 @@
 ghost use mathlib.Core.Path.{_≡_};
 ghost use mathlib.Core.Bool.{true, _||_, not};
 ghost use lib.Dec.{eqb, ltb};
-ghost use Rattle.intervals.specs.Lists.{allBelow};
+ghost use Rattle.intervals.specs.Lists.{allBelow, anyBelow, any};
+ghost use Rattle.intervals.specs.Hierarchy.{sizeWrong};
 ghost use mathlib.Core.List.{[]};
 ghost use Prim.Native.Nat.{ℕ, _+_, _*_, _≤_, _<_};
-ghost use lib.ListN.{length, take};
+ghost use lib.ListN.{length, take, set};
 ghost use Rattle.desk.specs.Locks.{bothReading, share, conflict as conflicting, realInterval, isMode, isHold, modeNumbered, lockNumbered, conflictCall};
-ghost use Rattle.desk.specs.Desks.{stageAt, listedAt, queueOf, queuePlaces, freshDesk, isOut, isWaiting, againstHolder, againstWaiter, meetsHolder, meetsWaiter};
-ghost use Rattle.desk.specs.Sound.{listsParties, listsOnce, isListed, listsWaiting, ofLock, lockReal, intervalsReal, holdersConflict, holdersApart, heldUp, waitersHeldUp};
-ghost use Rattle.desk.specs.Steps.{free, countGrants};
-ghost use Rattle.desk.specs.Inner.{mayGo, held, withStage, withLast, othersOf, Sweeps};
+ghost use Rattle.desk.specs.Desks.{lent, stageAt, listedAt, queueOf, queuePlaces, freshDesk, isOut, isWaiting, againstHolder, againstWaiter, meetsHolder, meetsWaiter};
+ghost use Rattle.desk.specs.Sound.{listsParties, listsOnce, isListed, listsWaiting, ofLock, lockReal, intervalsReal, holdersConflict, holdersApart, heldUp, waitersHeldUp, coverRight, coversRight, soundDesk};
+ghost use Rattle.desk.specs.Steps.{free, countGrants, tablesShort, intervalWrong, namesWrong, lockOn, insideLock, insideHold, isReading, readsOnly, grantTo, queueLast, enterStep, getStep, putStep, leaveStep};
+ghost use Rattle.desk.specs.Answers.{Enters, Gets, Puts, Leaves};
+ghost use Rattle.desk.specs.Inner.{spanned, Judged, NodeJudged, goneDesk, withGrants, mayGo, held, withStage, withLast, othersOf, Sweeps};
 
 // A visit is reading or writing.
 pub enum Mode {
@@ -302,11 +304,11 @@ impl Desk {
     fn stands_against(self, l: Lock, party: usize) -> bool
         ensures { λ r. ⌜ r ≡ againstHolder l (stageAt self party) || againstWaiter l (stageAt self party) ⌝ }
     {
-        let s = self.stage(party);
-        if against_holder(l, s) {
+        let here = self.stage(party);
+        if against_holder(l, here) {
             return true;
         }
-        against_waiter(l, s)
+        against_waiter(l, here)
     }
 
     // Whether a lock conflicts with no holder and no waiter.
@@ -636,6 +638,354 @@ impl Desk {
         }
         Swept { desk: d, granted }
     }
+
+    // Whether the cover of what a party holds or waits for is right.
+    fn cover_right(self, n: usize, intervals: &[u16], party: usize) -> bool
+        ensures { λ r. ⌜ r ≡ ofLock (coverRight (spanned n (now (intervals .entry)))) (stageAt self party) ⌝ }
+    {
+        let s = self.stage(party);
+        stage_right(s, n, intervals)
+    }
+
+    // Whether all covers at the desk are right.
+    fn covers_right(self, n: usize, intervals: &[u16]) -> bool
+        ensures { λ r. ⌜ r ≡ coversRight (spanned n (now (intervals .entry))) self ⌝ }
+    {
+        let mut i = 0;
+        while i < 32 {
+            if !self.cover_right(n, intervals, i) {
+                return false;
+            }
+            i += 1;
+        }
+        true
+    }
+
+    // Whether the desk is sound.
+    fn sound(self, n: usize, intervals: &[u16]) -> bool
+        ensures { λ r. ⌜ r ≡ soundDesk (spanned n (now (intervals .entry))) self ⌝ }
+    {
+        if !self.lists_parties() {
+            return false;
+        }
+        if !self.lists_once() {
+            return false;
+        }
+        if !self.lists_waiting() {
+            return false;
+        }
+        if !self.intervals_real() {
+            return false;
+        }
+        if !self.covers_right(n, intervals) {
+            return false;
+        }
+        if !self.holders_apart() {
+            return false;
+        }
+        self.waiters_held_up()
+    }
+
+    // What every step looks at: the number of the first refusal that holds, or 0.
+    fn judge(
+        self,
+        n: usize,
+        intervals: &[u16],
+        edges: &[u16],
+        count: usize,
+        party: usize,
+        short: bool,
+    ) -> u8
+        ensures { λ r. ⌜ (r < 12) × Judged (lent n (now (intervals .entry)) (now (edges .entry)) count) self party short r ⌝ }
+    {
+        if tables_short(n, intervals, edges, count) {
+            return 1;
+        }
+        if short {
+            return 1;
+        }
+        if size_wrong(n) {
+            return 5;
+        }
+        if 1024 < count {
+            return 6;
+        }
+        if intervals::edges_wrong(n, edges, count) {
+            return 7;
+        }
+        if some_interval_wrong(n, intervals) {
+            return 10;
+        }
+        if !self.sound(n, intervals) {
+            return 10;
+        }
+        if 31 < party {
+            return 11;
+        }
+        0
+    }
+
+    // What get and put look at besides: the number of the first refusal that holds, or 0.
+    fn judge_node(self, n: usize, intervals: &[u16], party: usize, node: usize) -> u8
+        ensures { λ r. ⌜ (r < 17) × NodeJudged (spanned n (now (intervals .entry))) self party node r ⌝ }
+    {
+        let s = self.stage(party);
+        if is_out(s) {
+            return 13;
+        }
+        if is_waiting(s) {
+            return 14;
+        }
+        if n <= node {
+            return 15;
+        }
+        if !inside_hold(intervals, node, s) {
+            return 16;
+        }
+        0
+    }
+
+    // The desk with a lock granted to a party that was out.
+    fn granted(self, party: usize, l: Lock) -> Desk
+        requires { ⌜ self .waiting ≤ 32 ⌝ }
+        ensures { λ r. ⌜ r ≡ grantTo self party l ⌝ }
+    {
+        let queue = self.tidy_queue();
+        let grants = count_grants(self.grants, 1);
+        let d = self.with_stage(party, Stage::Holding(l));
+        let entries = d.entries;
+        Desk {
+            entries,
+            queue,
+            waiting: self.waiting,
+            grants,
+        }
+    }
+
+    // The desk with a party last in arrival order, which waits for a lock.
+    fn queued(self, party: usize, l: Lock) -> Desk
+        requires { ⌜ (self .waiting ≤ 32) × (party < 32) ⌝ }
+        ensures { λ r. ⌜ r ≡ queueLast self party l ⌝ }
+    {
+        let tidy = self.tidy_queue();
+        let at = self.waiting;
+        let queue = with_place(tidy, at, party as u8);
+        let d = self.with_stage(party, Stage::Waiting(l));
+        let entries = d.entries;
+        Desk {
+            entries,
+            queue,
+            waiting: at + 1,
+            grants: self.grants,
+        }
+    }
+
+    // The desk with a party out, and nobody in its arrival list.
+    fn gone(self, party: usize) -> Desk
+        ensures { λ r. ⌜ r ≡ goneDesk self party ⌝ }
+    {
+        let d = self.with_stage(party, Stage::Out);
+        let entries = d.entries;
+        Desk {
+            entries,
+            queue: [0u8; 32],
+            waiting: 0,
+            grants: self.grants,
+        }
+    }
+
+    // The desk with another count of grants.
+    fn with_grants(self, grants: u32) -> Desk
+        ensures { λ r. ⌜ r ≡ withGrants self grants ⌝ }
+    {
+        let mut d = self;
+        d.grants = grants;
+        d
+    }
+
+    // A party asks for the nodes that it names: granted with the cover, or waiting.
+    pub fn enter(
+        self,
+        n: usize,
+        intervals: &[u16],
+        edges: &[u16],
+        count: usize,
+        party: usize,
+        mode: Mode,
+        names: &[u16],
+        named: usize,
+    ) -> EnterStep
+        ensures { λ r. ⌜ Enters r (enterStep (lent n (now (intervals .entry)) (now (edges .entry)) count) self party mode (now (names .entry)) named) ⌝ }
+    {
+        let k = self.judge(n, intervals, edges, count, party, names.len() < named);
+        if k != 0 {
+            return EnterStep {
+                desk: self,
+                answer: EnterAnswer::Refused(k),
+            };
+        }
+        let s = self.stage(party);
+        if !is_out(s) {
+            return EnterStep {
+                desk: self,
+                answer: EnterAnswer::Refused(12),
+            };
+        }
+        if names_wrong(n, names, named) {
+            return EnterStep {
+                desk: self,
+                answer: EnterAnswer::Refused(15),
+            };
+        }
+        let c = intervals::cover(intervals, edges, count, &names[..named]);
+        let l = lock_on(intervals, mode, c);
+        if self.is_free(l) {
+            let d = self.granted(party, l);
+            return EnterStep {
+                desk: d,
+                answer: EnterAnswer::Granted(c as usize),
+            };
+        }
+        let d = self.queued(party, l);
+        EnterStep {
+            desk: d,
+            answer: EnterAnswer::Waits,
+        }
+    }
+
+    // A party that holds reads the value of a node inside its hold.
+    pub fn get(
+        self,
+        n: usize,
+        intervals: &[u16],
+        edges: &[u16],
+        count: usize,
+        party: usize,
+        node: usize,
+        values: &[u64],
+    ) -> GetStep
+        ensures { λ r. ⌜ Gets r (getStep (lent n (now (intervals .entry)) (now (edges .entry)) count) self party node (now (values .entry))) ⌝ }
+    {
+        let k = self.judge(n, intervals, edges, count, party, values.len() < n);
+        if k != 0 {
+            return GetStep {
+                desk: self,
+                answer: GetAnswer::Refused(k),
+            };
+        }
+        let j = self.judge_node(n, intervals, party, node);
+        if j == 14 {
+            return GetStep {
+                desk: self,
+                answer: GetAnswer::Waiting,
+            };
+        }
+        if j != 0 {
+            return GetStep {
+                desk: self,
+                answer: GetAnswer::Refused(j),
+            };
+        }
+        let value = values[node];
+        GetStep {
+            desk: self,
+            answer: GetAnswer::Value(value),
+        }
+    }
+
+    // A party that holds for writing replaces the value of a node inside its hold.
+    pub fn put(
+        self,
+        n: usize,
+        intervals: &[u16],
+        edges: &[u16],
+        count: usize,
+        party: usize,
+        node: usize,
+        value: u64,
+        values: &mut [u64],
+    ) -> PutStep
+        ensures { λ r. ⌜ Puts r (now (values .exit)) (putStep (lent n (now (intervals .entry)) (now (edges .entry)) count) self party node value (now (values .entry))) ⌝ }
+    {
+        let k = self.judge(n, intervals, edges, count, party, values.len() < n);
+        if k != 0 {
+            return PutStep {
+                desk: self,
+                answer: PutAnswer::Refused(k),
+            };
+        }
+        let j = self.judge_node(n, intervals, party, node);
+        if j != 0 {
+            return PutStep {
+                desk: self,
+                answer: PutAnswer::Refused(j),
+            };
+        }
+        let s = self.stage(party);
+        if reads_only(s) {
+            return PutStep {
+                desk: self,
+                answer: PutAnswer::Refused(17),
+            };
+        }
+        values[node] = value;
+        PutStep {
+            desk: self,
+            answer: PutAnswer::Stored,
+        }
+    }
+
+    // A party gives up its hold or its call; waiters are then granted in arrival order, and listed.
+    pub fn leave(
+        self,
+        n: usize,
+        intervals: &[u16],
+        edges: &[u16],
+        count: usize,
+        party: usize,
+        list: &mut [u8],
+    ) -> LeaveStep
+        ensures { λ r. ⌜ Leaves r (now (list .exit)) (leaveStep (lent n (now (intervals .entry)) (now (edges .entry)) count) self party (now (list .entry))) ⌝ }
+    {
+        let k = self.judge(n, intervals, edges, count, party, list.len() < 32);
+        if k != 0 {
+            return LeaveStep {
+                desk: self,
+                answer: LeaveAnswer::Refused(k),
+            };
+        }
+        let s = self.stage(party);
+        if is_out(s) {
+            return LeaveStep {
+                desk: self,
+                answer: LeaveAnswer::Refused(13),
+            };
+        }
+        let others = self.without(party);
+        let places = others.places;
+        let waiting = others.count;
+        let gone = self.gone(party);
+        let swept = gone.sweep(places, waiting, list);
+        let d = swept.desk;
+        let grants = count_grants(self.grants, swept.granted);
+        let next = d.with_grants(grants);
+        LeaveStep {
+            desk: next,
+            answer: LeaveAnswer::Left(swept.granted),
+        }
+    }
+}
+
+// The places with a party at one of them; a place past them changes nothing.
+fn with_place(places: [u8; 32], at: usize, party: u8) -> [u8; 32]
+    ensures { λ r. ⌜ r ≡ set places at party ⌝ }
+{
+    let mut next = places;
+    if at < 32 {
+        next[at] = party;
+        return next;
+    }
+    next
 }
 
 // A count of grants with more added, which stops at the largest number.
@@ -699,6 +1049,169 @@ fn holders_conflict(s: Stage, t: Stage) -> bool
         Stage::Out => false,
         Stage::Waiting(_) => false,
         Stage::Holding(l) => against_holder(l, t),
+    }
+}
+
+// Whether a lock's cover is below n and has the lock's interval.
+fn lock_right(l: Lock, n: usize, intervals: &[u16]) -> bool
+    ensures { λ r. ⌜ r ≡ coverRight (spanned n (now (intervals .entry))) l ⌝ }
+{
+    let c = l.cover as usize;
+    if n <= c {
+        return false;
+    }
+    let i = intervals::interval_at(intervals, c);
+    if i.low != l.low {
+        return false;
+    }
+    i.high == l.high
+}
+
+// Whether what a party at this stage holds or waits for has a right cover.
+fn stage_right(s: Stage, n: usize, intervals: &[u16]) -> bool
+    ensures { λ r. ⌜ r ≡ ofLock (coverRight (spanned n (now (intervals .entry)))) s ⌝ }
+{
+    match s {
+        Stage::Out => true,
+        Stage::Waiting(l) => lock_right(l, n, intervals),
+        Stage::Holding(l) => lock_right(l, n, intervals),
+    }
+}
+
+// Whether a node's interval is not real or not inside node 0's.
+fn interval_wrong(intervals: &[u16], node: usize) -> bool
+    ensures { λ r. ⌜ r ≡ intervalWrong (spanned 0 (now (intervals .entry))) node ⌝ }
+{
+    let i = intervals::interval_at(intervals, node);
+    let root = intervals::interval_at(intervals, 0);
+    if !real_interval(i.low as u32, i.high as u32) {
+        return true;
+    }
+    if i.low < root.low {
+        return true;
+    }
+    root.high < i.high
+}
+
+// Whether the interval of some node below n is wrong.
+fn some_interval_wrong(n: usize, intervals: &[u16]) -> bool
+    ensures { λ r. ⌜ r ≡ anyBelow n (intervalWrong (spanned n (now (intervals .entry)))) ⌝ }
+{
+    let mut i = 0;
+    while i < n {
+        if interval_wrong(intervals, i) {
+            return true;
+        }
+        i += 1;
+    }
+    false
+}
+
+// Whether the tables are shorter than n and the edge count say.
+fn tables_short(n: usize, intervals: &[u16], edges: &[u16], count: usize) -> bool
+    ensures { λ r. ⌜ r ≡ tablesShort (lent n (now (intervals .entry)) (now (edges .entry)) count) ⌝ }
+{
+    if intervals.len() / 2 < n {
+        return true;
+    }
+    edges.len() / 2 < count
+}
+
+// Whether n is not in 1 to 256.
+fn size_wrong(n: usize) -> bool
+    ensures { λ r. ⌜ r ≡ sizeWrong n ⌝ }
+{
+    if n < 1 {
+        return true;
+    }
+    256 < n
+}
+
+// Whether one of the first k names is not below n.
+fn some_name_wrong(n: usize, names: &[u16], k: usize) -> bool
+    requires { ⌜ k ≤ length (now names) ⌝ }
+    ensures { λ r. ⌜ r ≡ any (λ node. not (ltb node n)) (take k (now (names .entry))) ⌝ }
+{
+    let mut i = 0;
+    while i < k {
+        if n <= names[i] as usize {
+            return true;
+        }
+        i += 1;
+    }
+    false
+}
+
+// Whether the name count is not 1 to 8, or a name is not below n.
+fn names_wrong(n: usize, names: &[u16], k: usize) -> bool
+    requires { ⌜ k ≤ length (now names) ⌝ }
+    ensures { λ r. ⌜ r ≡ namesWrong n (now (names .entry)) k ⌝ }
+{
+    if k < 1 {
+        return true;
+    }
+    if 8 < k {
+        return true;
+    }
+    some_name_wrong(n, names, k)
+}
+
+// Whether a node's interval lies inside that of a lock.
+fn inside_lock(intervals: &[u16], node: usize, l: Lock) -> bool
+    ensures { λ r. ⌜ r ≡ insideLock (spanned 0 (now (intervals .entry))) node l ⌝ }
+{
+    let i = intervals::interval_at(intervals, node);
+    if i.low < l.low {
+        return false;
+    }
+    i.high <= l.high
+}
+
+// Whether a node's interval lies inside what a party at this stage holds.
+fn inside_hold(intervals: &[u16], node: usize, s: Stage) -> bool
+    ensures { λ r. ⌜ r ≡ insideHold (spanned 0 (now (intervals .entry))) node s ⌝ }
+{
+    match s {
+        Stage::Out => false,
+        Stage::Waiting(_) => false,
+        Stage::Holding(l) => inside_lock(intervals, node, l),
+    }
+}
+
+// Whether a lock is for reading.
+fn is_reading(m: Mode) -> bool
+    ensures { λ r. ⌜ r ≡ isReading m ⌝ }
+{
+    match m {
+        Mode::Reading => true,
+        Mode::Writing => false,
+    }
+}
+
+// Whether a party at this stage holds for reading.
+fn reads_only(s: Stage) -> bool
+    ensures { λ r. ⌜ r ≡ readsOnly s ⌝ }
+{
+    match s {
+        Stage::Out => false,
+        Stage::Waiting(_) => false,
+        Stage::Holding(l) => {
+            let m = l.mode;
+            is_reading(m)
+        }
+    }
+}
+
+// The lock of a mode on a cover.
+fn lock_on(intervals: &[u16], mode: Mode, cover: u16) -> Lock
+    ensures { λ r. ⌜ r ≡ lockOn (spanned 0 (now (intervals .entry))) mode cover ⌝ }
+{
+    let i = intervals::interval_at(intervals, cover as usize);
+    Lock {
+        mode,
+        cover,
+        low: i.low,
+        high: i.high,
     }
 }
 
