@@ -1,5 +1,5 @@
 -- `block_check` meets its contract: the sums over the words left, from those reached, are the check of the string. Assumes nothing.
-use Prim.Native.Nat.{_≤_, _<_, _+_, _*_, _-_, _/_}
+use Prim.Native.Nat.{_≤_, _<_, _*_, _-_, _/_}
 use mathlib.Core.Path.{_≡_, refl, _∙_}
 use native.Mathlib.Omega.{arith}
 use lib.ListN.{length, drop}
