@@ -33,10 +33,6 @@ pub ok-better : (up : Bool) (x y : ℕ) → isBetter up x y ≡ true → Ok up x
 ok-better true x y a = le-ltb x y (omega (arith, ltb-true y x a))
 ok-better false x y a = le-ltb y x (omega (arith, ltb-true x y a))
 
-pub ok-same : (up : Bool) (x y : ℕ) → Ok up x y → Ok up y x → x ≡ y
-ok-same true x y a b = omega (arith, ltb-false x y a, ltb-false y x b)
-ok-same false x y a b = omega (arith, ltb-false y x a, ltb-false x y b)
-
 -- ---- relaxing
 
 -- what relaxing from vs keeps

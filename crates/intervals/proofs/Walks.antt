@@ -15,7 +15,7 @@ use Rattle.intervals.proofs.Bools.{bool}
 use Rattle.intervals.proofs.Marks.{getD-any, zeros-set, zeros-fall, zeros-replicate, zero-at}
 use Rattle.intervals.proofs.EdgeLoops.{rest, rest-other, rest-child, end-children, turn, child-below}
 
--- what holds of the walk s′ that s has become: the tables keep their lengths, unseen stays seen, and the counter stays within what was left to number
+-- what holds of the walk s′ that s has become: the tables keep their lengths, seen stays seen, and the counter stays within what was left to number
 pub record After (s s′ : Walk) : Type 0 where
   pub marks-long : length (s′ .marks) ≡ length (s .marks)
   pub numbers-long : length (s′ .numbers) ≡ length (s .numbers)

@@ -65,6 +65,7 @@ abbrev pub isBetter : Bool → ℕ → ℕ → Bool
 isBetter true x y = ltb y x
 isBetter false x y = ltb x y
 
+-- the first of two where the test holds, else the second
 abbrev pub pick : Bool → ℕ → ℕ → ℕ
 pick true x y = x
 pick false x y = y
@@ -101,21 +102,24 @@ abbrev pub weigh : Bool → ℕ → ℕ
 weigh true x = 65535 - x
 weigh false x = x
 
+-- the sum over a list
 unfoldable pub weight : Bool → List ℕ → ℕ
 weight up [] = 0
 weight up (x ∷ xs) = weigh up x + weight up xs
 
--- of a table with low and high in turn: the lows, the highs, and how far both are from the best
+-- the lows of a table with low and high in turn
 unfoldable pub lows : List ℕ → List ℕ
 lows [] = []
 lows (low ∷ []) = []
 lows (low ∷ high ∷ table) = low ∷ lows table
 
+-- and its highs
 unfoldable pub highs : List ℕ → List ℕ
 highs [] = []
 highs (low ∷ []) = []
 highs (low ∷ high ∷ table) = high ∷ highs table
 
+-- how far the table is from the best
 unfoldable pub tableWeight : List ℕ → ℕ
 tableWeight table = weight false (lows table) + weight true (highs table)
 

@@ -1,6 +1,7 @@
 -- `wipe` meets its contract: the part that is cleared is the first 2,048 bytes. Assumes nothing.
 use mathlib.Core.Path.{sym, ap, _∙_}
 use Prim.Native.Nat.{ℕ}
+use native.Mathlib.Omega.{arith}
 use lib.ListN.{replicate}
 use lib.Seq.{length-take-le}
 use Rattle.intervals.proofs.Builds.{laid}
@@ -9,7 +10,7 @@ use Rattle.intervals.proofs.wipe.Statement.{statement}
 use Rattle.intervals.proofs.wipe.Tie as tie
 
 slice-aggregate-clear : tie.Need-slice-aggregate-clear
-slice-aggregate-clear c = sym (length-take-le 2048 (c .before .before .args .scratch .now) (c .before .before .pre))
+slice-aggregate-clear c = sym (length-take-le _ (c .before .before .args .scratch .now) (omega (arith, c .before .before .pre)))
 
 returns : tie.Need-returns
 returns c = let l = c .before .before .before .before .before .args .scratch .now in
