@@ -1216,7 +1216,7 @@ fn lock_on(intervals: &[u16], mode: Mode, cover: u16) -> Lock
 }
 
 // The mode of a number: 1 reading, any other writing.
-fn mode_numbered(m: u32) -> Mode
+pub fn mode_numbered(m: u32) -> Mode
     ensures { λ r. ⌜ r ≡ modeNumbered m ⌝ }
 {
     if m == 1 {

@@ -91,6 +91,10 @@ pub record State : Type 0 where
   pub desk : Desk
   pub values : List ℕ
 
+-- of these
+abbrev pub stateOf : Desk → List ℕ → State
+stateOf desk values = record { desk = desk; values = values }
+
 -- what a step leaves and answers
 pub record Performed : Type 0 where
   pub state : State
@@ -115,16 +119,10 @@ afterLeave s r = record { state = record { desk = r .desk; values = s .values };
 -- one step record performed on the desk, by its kind: 3 enter, 4 get, 5 put, 6 leave
 unfoldable pub perform : Hierarchy → State → List ℕ → Performed
 perform H s r =
-    elim (eqb (kindOf r) 3) [
-      | true ↦ afterEnter s (enterStep H (s .desk) (partyIn r) (modeNumbered (modeIn r)) (namesIn r) (nameCountIn r))
-      | false ↦ elim (eqb (kindOf r) 4) [
-        | true ↦ afterGet s (getStep H (s .desk) (partyIn r) (nodeIn r) (s .values))
-        | false ↦ elim (eqb (kindOf r) 5) [
-          | true ↦ afterPut (putStep H (s .desk) (partyIn r) (nodeIn r) (valueIn r) (s .values))
-          | false ↦ afterLeave s (leaveStep H (s .desk) (partyIn r) (replicate 32 0))
-        ]
-      ]
-    ]
+    cond (eqb (kindOf r) 3) (afterEnter s (enterStep H (s .desk) (partyIn r) (modeNumbered (modeIn r)) (namesIn r) (nameCountIn r)))
+    (cond (eqb (kindOf r) 4) (afterGet s (getStep H (s .desk) (partyIn r) (nodeIn r) (s .values)))
+    (cond (eqb (kindOf r) 5) (afterPut (putStep H (s .desk) (partyIn r) (nodeIn r) (valueIn r) (s .values)))
+    (afterLeave s (leaveStep H (s .desk) (partyIn r) (replicate 32 0)))))
 
 -- A WHOLE FILE. The steps one after the other: the state that they leave, and their answers
 pub record Ran : Type 0 where

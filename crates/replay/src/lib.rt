@@ -1,1 +1,328 @@
-// A file of block records as a hierarchy and steps, and what running it answers.
+// A file's records as a hierarchy and steps: n, the edge table, and one step record performed on the desk.
+ghost use mathlib.Core.Path.{_≡_};
+ghost use Prim.Native.Nat.{_+_, _*_, _≤_};
+ghost use lib.ListN.{length, replicate};
+ghost use lib.Dec.{eqb};
+ghost use Rattle.intervals.specs.Lists.{over, one};
+ghost use Rattle.blocks.specs.Inner.{overAt};
+ghost use Rattle.blocks.specs.Record.{kindOf, partyIn, modeIn, nameCountIn, namesIn, nodeIn, valueIn};
+ghost use Rattle.desk.specs.Locks.{modeNumbered};
+ghost use Rattle.desk.specs.Desks.{lent};
+ghost use Rattle.desk.specs.Steps.{enterStep, getStep, putStep, leaveStep};
+ghost use Rattle.desk.specs.Answers.{enterMeaning, getMeaning, putMeaning, leaveMeaning};
+ghost use Rattle.replay.specs.Replay.{recordList, sizeOf, edgeTable, edgeCountOf, enterLine, getLine, putLine, stateOf, afterEnter, afterGet, afterPut, afterLeave, perform as performing};
+ghost use Rattle.replay.specs.Answers.{EdgesInto, edgesInto, outcomeOf, Performs};
+ghost use Rattle.replay.specs.Inner.{recordAt, edgeOf, leftOutcome, PerformsAny};
+use desk::Desk;
+use desk::EnterAnswer;
+use desk::GetAnswer;
+use desk::LeaveAnswer;
+use desk::PutAnswer;
+
+// What a step of a file answers, one value for the four kinds. `Left` counts the granted parties, which stand first in `Step::parties`.
+pub enum Outcome {
+    Granted(usize),
+    Waits,
+    Value(u64),
+    Stored,
+    Left(usize),
+    Refused(u8),
+}
+
+// What a step of a file hands back: the next desk, the answer, and the parties that a leave granted, with zeros behind them.
+pub struct Step {
+    pub desk: Desk,
+    pub outcome: Outcome,
+    pub parties: [u8; 32],
+}
+
+// What taking the edge table from the records answers: the count of edges.
+pub enum EdgesAnswer {
+    Edges(usize),
+    Refused(u8),
+}
+
+// n, from the size record, which comes first; 0 where there is no record.
+pub fn size(records: &[u8]) -> usize
+    ensures { λ r. ⌜ r ≡ sizeOf (recordList (now (records .entry))) ⌝ }
+{
+    if records.len() < 16 {
+        return 0;
+    }
+    blocks::number2(1, records) as usize
+}
+
+// 1 where record i is an edge, and 0 where it is not.
+fn edge_at(records: &[u8], i: usize) -> usize
+    requires { ⌜ 16 * i + 16 ≤ length (now records) ⌝ }
+    ensures { λ r. ⌜ r ≡ one (eqb (kindOf (recordAt (now (records .entry)) i)) 2) ⌝ }
+{
+    if blocks::byte(16 * i, records) == 2 {
+        return 1;
+    }
+    0
+}
+
+// The edge count.
+fn edge_count(records: &[u8]) -> usize
+    ensures { λ r. ⌜ r ≡ edgeCountOf (recordList (now (records .entry))) ⌝ }
+{
+    let total = records.len() / 16;
+    let mut count = 0;
+    let mut i = 0;
+    while i < total {
+        count += edge_at(records, i);
+        i += 1;
+    }
+    count
+}
+
+// Puts record i into the table from place `at` on, if it is an edge, and answers the place behind it.
+fn put_edge(records: &[u8], i: usize, at: usize, table: &mut [u16]) -> usize
+    requires { ⌜ (16 * i + 16 ≤ length (now records)) × (at + length (edgeOf (recordAt (now records) i)) ≤ length (now table)) ⌝ }
+    ensures { λ r. ⌜ (r ≡ at + length (edgeOf (recordAt (now (records .entry)) i))) × (now (table .exit) ≡ overAt at (edgeOf (recordAt (now (records .entry)) i)) (now (table .entry))) ⌝ }
+{
+    if blocks::byte(16 * i, records) != 2 {
+        return at;
+    }
+    table[at] = blocks::byte(16 * i + 1, records) as u16;
+    table[at + 1] = blocks::byte(16 * i + 2, records) as u16;
+    at + 2
+}
+
+// Puts all edges into the table.
+fn put_edges(records: &[u8], table: &mut [u16])
+    requires { ⌜ 2 * edgeCountOf (recordList (now records)) ≤ length (now table) ⌝ }
+    ensures { λ _. ⌜ now (table .exit) ≡ over (edgeTable (recordList (now (records .entry)))) (now (table .entry)) ⌝ }
+{
+    let total = records.len() / 16;
+    let mut at = 0;
+    let mut i = 0;
+    while i < total {
+        at = put_edge(records, i, at, table);
+        i += 1;
+    }
+}
+
+// The edge table, from the edge records in their order, into lent places; answers the edge count.
+pub fn edges(records: &[u8], table: &mut [u16]) -> EdgesAnswer
+    ensures { λ r. ⌜ EdgesInto r (now (table .exit)) (edgesInto (recordList (now (records .entry))) (now (table .entry))) ⌝ }
+{
+    let count = edge_count(records);
+    if table.len() / 2 < count {
+        return EdgesAnswer::Refused(1);
+    }
+    put_edges(records, table);
+    EdgesAnswer::Edges(count)
+}
+
+// A byte as a wider number.
+fn wide(x: u8) -> usize
+    ensures { λ r. ⌜ (r ≡ x) × (r ≤ 255) ⌝ }
+{
+    x as usize
+}
+
+// How many names a record has: as many as its name count says, if it is as long.
+fn names_in(bytes: &[u8]) -> usize
+    ensures { λ r. ⌜ (r ≡ length (namesIn (now (bytes .entry)))) × (r ≤ 255) ⌝ }
+{
+    let named = wide(blocks::byte(3, bytes));
+    if bytes.len() < 4 {
+        return 0;
+    }
+    if bytes.len() - 4 < named {
+        return bytes.len() - 4;
+    }
+    named
+}
+
+// Puts a record's names into the first places, and answers how many there are.
+fn put_names(bytes: &[u8], names: &mut [u16]) -> usize
+    requires { ⌜ 255 ≤ length (now names) ⌝ }
+    ensures { λ r. ⌜ (r ≡ length (namesIn (now (bytes .entry)))) × (now (names .exit) ≡ over (namesIn (now (bytes .entry))) (now (names .entry))) ⌝ }
+{
+    let count = names_in(bytes);
+    let mut i = 0;
+    while i < count {
+        names[i] = blocks::byte(i + 4, bytes) as u16;
+        i += 1;
+    }
+    count
+}
+
+// What enter answered, as an outcome.
+fn entered(a: EnterAnswer) -> Outcome
+    ensures { λ r. ⌜ r ≡ outcomeOf (enterLine (enterMeaning a)) ⌝ }
+{
+    match a {
+        EnterAnswer::Granted(cover) => Outcome::Granted(cover),
+        EnterAnswer::Waits => Outcome::Waits,
+        EnterAnswer::Refused(k) => Outcome::Refused(k),
+    }
+}
+
+// What get answered where no value is available: waiting is refusal 14.
+fn not_got(a: GetAnswer) -> Outcome
+    ensures { λ r. ⌜ r ≡ outcomeOf (getLine (getMeaning a)) ⌝ }
+{
+    match a {
+        GetAnswer::Value(v) => Outcome::Value(v),
+        GetAnswer::Waiting => Outcome::Refused(14),
+        GetAnswer::Refused(k) => Outcome::Refused(k),
+    }
+}
+
+// What put answered.
+fn stored(a: PutAnswer) -> Outcome
+    ensures { λ r. ⌜ r ≡ outcomeOf (putLine (putMeaning a)) ⌝ }
+{
+    match a {
+        PutAnswer::Stored => Outcome::Stored,
+        PutAnswer::Refused(k) => Outcome::Refused(k),
+    }
+}
+
+// What leave answered.
+fn left(a: LeaveAnswer) -> Outcome
+    ensures { λ r. ⌜ r ≡ leftOutcome (leaveMeaning a) ⌝ }
+{
+    match a {
+        LeaveAnswer::Left(k) => Outcome::Left(k),
+        LeaveAnswer::Refused(k) => Outcome::Refused(k),
+    }
+}
+
+// An enter record performed.
+fn perform_enter(
+    desk: Desk,
+    n: usize,
+    intervals: &[u16],
+    edges: &[u16],
+    count: usize,
+    bytes: &[u8],
+) -> Step
+    ensures { λ r. ⌜ PerformsAny r (λ values. afterEnter (stateOf desk values) (enterStep (lent n (now (intervals .entry)) (now (edges .entry)) count) desk (partyIn (now (bytes .entry))) (modeNumbered (modeIn (now (bytes .entry)))) (namesIn (now (bytes .entry))) (nameCountIn (now (bytes .entry))))) ⌝ }
+{
+    let party = blocks::byte(1, bytes) as usize;
+    let mode = desk::mode_numbered(blocks::byte(2, bytes) as u32);
+    let named = blocks::byte(3, bytes) as usize;
+    let mut names = [0u16; 255];
+    let k = put_names(bytes, &mut names);
+    let step = desk.enter(n, intervals, edges, count, party, mode, &names[..k], named);
+    let answer = step.answer;
+    let outcome = entered(answer);
+    let next = step.desk;
+    Step {
+        desk: next,
+        outcome,
+        parties: [0u8; 32],
+    }
+}
+
+// A get record performed.
+fn perform_get(
+    desk: Desk,
+    n: usize,
+    intervals: &[u16],
+    edges: &[u16],
+    count: usize,
+    bytes: &[u8],
+    values: &[u64],
+) -> Step
+    ensures { λ r. ⌜ Performs r (now (values .entry)) (afterGet (stateOf desk (now (values .entry))) (getStep (lent n (now (intervals .entry)) (now (edges .entry)) count) desk (partyIn (now (bytes .entry))) (nodeIn (now (bytes .entry))) (now (values .entry)))) ⌝ }
+{
+    let party = blocks::byte(1, bytes) as usize;
+    let node = blocks::byte(2, bytes) as usize;
+    let step = desk.get(n, intervals, edges, count, party, node, values);
+    let next = step.desk;
+    let answer = step.answer;
+    let GetAnswer::Value(v) = answer else {
+        let outcome = not_got(answer);
+        return Step {
+            desk: next,
+            outcome,
+            parties: [0u8; 32],
+        };
+    };
+    Step {
+        desk: next,
+        outcome: Outcome::Value(v),
+        parties: [0u8; 32],
+    }
+}
+
+// A put record performed.
+fn perform_put(
+    desk: Desk,
+    n: usize,
+    intervals: &[u16],
+    edges: &[u16],
+    count: usize,
+    bytes: &[u8],
+    values: &mut [u64],
+) -> Step
+    ensures { λ r. ⌜ Performs r (now (values .exit)) (afterPut (putStep (lent n (now (intervals .entry)) (now (edges .entry)) count) desk (partyIn (now (bytes .entry))) (nodeIn (now (bytes .entry))) (valueIn (now (bytes .entry))) (now (values .entry)))) ⌝ }
+{
+    let party = blocks::byte(1, bytes) as usize;
+    let node = blocks::byte(2, bytes) as usize;
+    let value = blocks::number8(4, bytes);
+    let step = desk.put(n, intervals, edges, count, party, node, value, values);
+    let answer = step.answer;
+    let outcome = stored(answer);
+    let next = step.desk;
+    Step {
+        desk: next,
+        outcome,
+        parties: [0u8; 32],
+    }
+}
+
+// A leave record performed.
+fn perform_leave(
+    desk: Desk,
+    n: usize,
+    intervals: &[u16],
+    edges: &[u16],
+    count: usize,
+    bytes: &[u8],
+) -> Step
+    ensures { λ r. ⌜ PerformsAny r (λ values. afterLeave (stateOf desk values) (leaveStep (lent n (now (intervals .entry)) (now (edges .entry)) count) desk (partyIn (now (bytes .entry))) (replicate 32 0))) ⌝ }
+{
+    let party = blocks::byte(1, bytes) as usize;
+    let mut parties = [0u8; 32];
+    let step = desk.leave(n, intervals, edges, count, party, &mut parties);
+    let answer = step.answer;
+    let outcome = left(answer);
+    let next = step.desk;
+    Step {
+        desk: next,
+        outcome,
+        parties,
+    }
+}
+
+// One step record performed on the desk, by its kind: 3 enter, 4 get, 5 put, 6 leave.
+pub fn perform(
+    desk: Desk,
+    n: usize,
+    intervals: &[u16],
+    edges: &[u16],
+    count: usize,
+    bytes: &[u8],
+    values: &mut [u64],
+) -> Step
+    ensures { λ r. ⌜ Performs r (now (values .exit)) (performing (lent n (now (intervals .entry)) (now (edges .entry)) count) (stateOf desk (now (values .entry))) (now (bytes .entry))) ⌝ }
+{
+    let kind = blocks::byte(0, bytes);
+    if kind == 3 {
+        return perform_enter(desk, n, intervals, edges, count, bytes);
+    }
+    if kind == 4 {
+        return perform_get(desk, n, intervals, edges, count, bytes, values);
+    }
+    if kind == 5 {
+        return perform_put(desk, n, intervals, edges, count, bytes, values);
+    }
+    perform_leave(desk, n, intervals, edges, count, bytes)
+}

@@ -1,0 +1,26 @@
+-- -- `edge_at` meets its contract: the byte read is the record's kind. Assumes nothing.
+use mathlib.Core.Path.{sym, ap, _∙_}
+use Prim.Native.Nat.{ℕ}
+use lib.Dec.{eqb}
+use borrow.Author.Needs.{needs}
+use borrow.Author.Tests.{eq-eqb, ne-eqb}
+use Rattle.intervals.specs.Lists.{one}
+use Rattle.blocks.specs.Bytes.{byte}
+use Rattle.replay.proofs.Records.{record-kind}
+use Rattle.replay.proofs.edge_at.Statement.{statement}
+use Rattle.replay.proofs.edge_at.Tie as tie
+
+returns : tie.Need-returns
+returns c = let z = c .before .before .before .args in sym (ap one (ap (λ (k : ℕ). eqb k 2) (record-kind (z .records .now) (z .i) ∙ sym (c .before .byte .ensures)) ∙ eq-eqb _ _ (c .if1 .taken)))
+
+returns-2 : tie.Need-returns-2
+returns-2 c = let z = c .before .before .before .args in sym (ap one (ap (λ (k : ℕ). eqb k 2) (record-kind (z .records .now) (z .i) ∙ sym (c .before .byte .ensures)) ∙ ne-eqb _ _ (c .if1 .left)))
+
+pub edge-at-spec : {M : Type 1} → statement M
+edge-at-spec =
+    tie.close
+    (tie.spec
+    (λ c. search needs)
+    (λ c κs. search needs)
+    returns
+    returns-2)

@@ -1,0 +1,29 @@
+-- Terms of the contracts of private functions only: no definition of the paper is here. Assumes nothing.
+use mathlib.Core.List.{List, []}
+use Prim.Native.Nat.{ℕ, _*_}
+use lib.Dec.{eqb}
+use lib.ListN.{length, take, drop}
+use Rattle.intervals.specs.Answer.{Answer, done, refused as denied}
+use Rattle.blocks.specs.Record.{kindOf, parentIn, childIn}
+use Rattle.replay.specs.declared.Outcome.{Outcome}
+use Rattle.replay.specs.declared.Outcome.the-variants.{Left, Refused}
+use Rattle.replay.specs.declared.Step.{Step}
+use Rattle.replay.specs.Replay.{edgeIf, Performed}
+use Rattle.replay.specs.Answers.{Performs}
+
+-- the record at a place, of records one behind the other
+abbrev pub recordAt : List ℕ → ℕ → List ℕ
+recordAt bytes i = take 16 (drop (16 * i) bytes)
+
+-- what a record gives to the edge table
+abbrev pub edgeOf : List ℕ → List ℕ
+edgeOf r = edgeIf (eqb (kindOf r) 2) (parentIn r) (childIn r) []
+
+-- the outcome of a leave
+abbrev pub leftOutcome : Answer ℕ → Outcome
+leftOutcome (done k) = Left k
+leftOutcome (denied k) = Refused k
+
+-- a step that has nothing to do with the values leaves them, whatever they are
+abbrev pub PerformsAny : Step → (List ℕ → Performed) → Type 0
+PerformsAny r p = (values : List ℕ) → Performs r values (p values)
