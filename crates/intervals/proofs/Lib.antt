@@ -12,6 +12,7 @@ pub mod Bounded
 pub mod Distinct
 pub mod EdgeLoops
 pub mod Searches
+pub mod Onwards
 pub mod Repeats
 pub mod Passes
 pub mod Spreads

@@ -1,17 +1,16 @@
 -- The turns of the cover search, and of its loop over an edge table for the child to step to. Assumes nothing.
 use mathlib.Core.Path.{_≡_, sym, ap, _∙_}
 use mathlib.Core.List.{List, [], _∷_}
-use mathlib.Core.Bool.{Bool, true, false, _&&_}
+use mathlib.Core.Bool.{true, false}
 use mathlib.Core.Option.{Option, none, some}
 use Prim.Native.Nat.{ℕ, zero, suc, _+_, _*_, _/_, _-_, _≤_, _<_, min}
 use native.Mathlib.Omega.{arith}
-use lib.Dec.{ltb}
 use lib.ListN.{length, getD, take}
 use Rattle.intervals.specs.Lists.{Below}
 use Rattle.intervals.specs.Hierarchy.{edgesOf, children, Edge}
 use Rattle.intervals.specs.Hierarchy.Edge.{first, later}
-use Rattle.intervals.specs.Cover.{intervalAt, contains, width, orElse, firstWithin, stepOr, searchFrom, coverOfInterval}
-use Rattle.intervals.specs.Inner.{endsAt}
+use Rattle.intervals.specs.Cover.{intervalAt, width, orElse, firstWithin, stepOr, searchFrom, coverOfInterval}
+use Rattle.intervals.specs.Inner.{endsAt, leadsOn}
 use Rattle.intervals.specs.declared.Interval.{Interval}
 use Rattle.intervals.specs.declared.Ends.{Ends}
 use Rattle.intervals.proofs.Marks.{past}
@@ -28,10 +27,6 @@ taken bound (suc k) (x ∷ l) b (suc i) = taken bound k l (λ j. b (suc j)) i
 edge-child : {parent child : ℕ} (bound : ℕ) (es : List ℕ) → Below bound es → Edge es parent child → child < bound
 edge-child bound es b first = b 1
 edge-child bound es b (later {es = rest} e) = edge-child bound rest (λ j. b (suc (suc j))) e
-
--- the search steps from the present node to one whose interval is a
-abbrev pub leadsOn : Interval → Interval → Interval → Bool
-leadsOn a call present = contains a call && ltb (width a) (width present)
 
 module _ (table : List ℕ) (call : Interval) (present : ℕ) (edges : List ℕ) (count e : ℕ) where
   -- what the edges from e on give

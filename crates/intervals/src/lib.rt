@@ -12,7 +12,7 @@ ghost use Rattle.intervals.specs.Numbering.{at as walkAt, walk as walked
 ghost use Rattle.intervals.specs.Intervals.{intervalTable};
 ghost use Rattle.intervals.specs.Build.{buildStep, buildMeaning};
 ghost use Rattle.intervals.specs.Cover.{intervalAt, callInterval, contains as containing, width as widthOf, firstWithin, stepOr, coverOfInterval, coverOf};
-ghost use Rattle.intervals.specs.Inner.{endsAt, Edges, repeats, Went, zeros, numberOf, Ready, Fresh, isBetter, improved, relax, Best, lows, highs, tableWeight, orMost, doubled, Writable};
+ghost use Rattle.intervals.specs.Inner.{endsAt, Edges, repeats, Went, zeros, numberOf, Ready, Fresh, isBetter, improved, relax, Best, lows, highs, tableWeight, orMost, doubled, Writable, stepFrom, Stays, led, Onward};
 
 // The interval of a node or of a call, from its low to its high.
 pub struct Interval {
@@ -527,18 +527,92 @@ fn step(intervals: &[u16], edges: &[u16], count: usize, call: Interval, present:
     present
 }
 
-// The search for the cover of a call's interval, from the root on.
-fn search(intervals: &[u16], edges: &[u16], count: usize, call: Interval) -> usize
+// Has each node of a table step to itself.
+fn stay(next: &mut [u16])
+    requires { ⌜ length (now next) ≡ 256 ⌝ }
+    ensures { λ _. ⌜ Stays (now (next .exit)) ⌝ }
+{
+    let mut i = 0;
+    while i < next.len() {
+        next[i] = i as u16;
+        i += 1;
+    }
+}
+
+// Has the parent of edge e step to its child where the search does. A parent past the table is passed over.
+fn lead(intervals: &[u16], edges: &[u16], e: usize, call: Interval, next: &mut [u16])
+    requires { ⌜ 2 * e + 1 < length (now edges) ⌝ }
+    ensures { λ _. ⌜ now (next .exit) ≡ led (now (intervals .entry)) call (endsAt (now (edges .entry)) e) (now (next .entry)) ⌝ }
+{
+    let ends = edge_at(edges, e);
+    let parent = ends.parent;
+    let child = ends.child;
+    if parent < next.len() {
+        if leads_on(
+            interval_at(intervals, child),
+            call,
+            interval_at(intervals, parent),
+        ) {
+            next[parent] = child as u16;
+        }
+    }
+}
+
+// Where the search steps from each node below 256, by one pass over the edges. Goes from the last to the first, so that of the children to
+// step to the first stays.
+fn onward(intervals: &[u16], edges: &[u16], count: usize, call: Interval, next: &mut [u16])
+    requires { ⌜ length (now next) ≡ 256 ⌝ }
+    ensures { λ _. ⌜ Onward (now (intervals .entry)) call (edgesOf (now (edges .entry)) count) (now (next .exit)) ⌝ }
+{
+    stay(next);
+    let whole = whole_edges(edges, count);
+    let mut left = whole;
+    while 0 < left {
+        lead(intervals, edges, left - 1, call, next);
+        left -= 1;
+    }
+}
+
+// The node that the search steps to: from a node below 256 as the table has it, and from another as the edges have it.
+fn follow(
+    intervals: &[u16],
+    edges: &[u16],
+    count: usize,
+    call: Interval,
+    next: &[u16],
+    present: usize,
+) -> usize
+    requires { ⌜ Onward (now intervals) call (edgesOf (now edges) count) (now next) ⌝ }
+    ensures { λ r. ⌜ r ≡ stepFrom (now (intervals .entry)) call (edgesOf (now (edges .entry)) count) present ⌝ }
+{
+    if present < next.len() {
+        return next[present] as usize;
+    }
+    step(intervals, edges, count, call, present)
+}
+
+// The search by the table, from the root on.
+fn descend(intervals: &[u16], edges: &[u16], count: usize, call: Interval, next: &[u16]) -> usize
+    requires { ⌜ Onward (now intervals) call (edgesOf (now edges) count) (now next) ⌝ }
     ensures { λ r. ⌜ r ≡ coverOfInterval (now (intervals .entry)) (edgesOf (now (edges .entry)) count) call ⌝ }
 {
     let mut present = 0;
     loop {
-        let next = step(intervals, edges, count, call, present);
-        if next == present {
+        let to = follow(intervals, edges, count, call, next, present);
+        if to == present {
             return present;
         }
-        present = next;
+        present = to;
     }
+}
+
+// The search for the cover of a call's interval: one pass over the edges, and then a node a step.
+fn search(intervals: &[u16], edges: &[u16], count: usize, call: Interval) -> usize
+    ensures { λ r. ⌜ r ≡ coverOfInterval (now (intervals .entry)) (edgesOf (now (edges .entry)) count) call ⌝ }
+{
+    let mut next = [0u16; 256];
+    onward(intervals, edges, count, call, &mut next);
+    descend(intervals, edges, count, call, &next)
 }
 
 // The cover of a call.
