@@ -74,6 +74,14 @@ read file room n e =
       left = ap (λ (r : Option ℕ). roomAfter r (fileRecords file) room) (t .0);
     }
 
+-- a file that reading accepts: its record bytes are whole records, at most 3,968, and the room begins with them
+pub read-whole : (file room : List ℕ) (n : ℕ) → readFile file room .answer ≡ done n
+    → (length (fileRecords file) ≡ 16 * n) × (n ≤ 3968) × (readFile file room .room ≡ over (fileRecords file) room)
+read-whole file room n e =
+    let r = read file room n e in
+    let b = blocks-facts file (r .whole) in
+    let a = read-accepts (wholeBlocks file) 0 0 file (b .0) (r .good) in (omega (arith, a .0, r .count), omega (arith, a .0, a .1, b .2, r .count), r .left)
+
 -- WHAT A REFUSAL, OR NONE, GIVES
 read-refuses : (file room : List ℕ) {k : ℕ} → readRefusal file room ≡ some k → readFile file room ≡ record { answer = refused k; room = room }
 unfolding readFile

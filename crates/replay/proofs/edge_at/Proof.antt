@@ -1,4 +1,4 @@
--- -- `edge_at` meets its contract: the byte read is the record's kind. Assumes nothing.
+-- `edge_at` meets its contract: the byte read is the record's kind. Assumes nothing.
 use mathlib.Core.Path.{sym, ap, _∙_}
 use Prim.Native.Nat.{ℕ}
 use lib.Dec.{eqb}

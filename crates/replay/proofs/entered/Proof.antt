@@ -1,4 +1,4 @@
--- -- `entered` meets its contract: case by case. Assumes nothing.
+-- `entered` meets its contract: case by case. Assumes nothing.
 use mathlib.Core.Path.{sym, ap}
 use borrow.Author.Needs.{needs}
 use Rattle.desk.specs.declared.EnterAnswer.{EnterAnswer}

@@ -1,4 +1,4 @@
--- -- `left` meets its contract: case by case. Assumes nothing.
+-- `left` meets its contract: case by case. Assumes nothing.
 use mathlib.Core.Path.{sym, ap}
 use borrow.Author.Needs.{needs}
 use Rattle.desk.specs.declared.LeaveAnswer.{LeaveAnswer}

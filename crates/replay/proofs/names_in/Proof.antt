@@ -1,4 +1,4 @@
--- -- `names_in` meets its contract: the lesser of the name count and the bytes behind it. Assumes nothing.
+-- `names_in` meets its contract: the lesser of the name count and the bytes behind it. Assumes nothing.
 use mathlib.Core.Path.{_≡_, sym, ap, _∙_}
 use Prim.Native.Nat.{ℕ, _-_, _≤_, _<_, min}
 use native.Mathlib.Omega.{arith}

@@ -1,4 +1,4 @@
--- -- `not_got` meets its contract: case by case. Assumes nothing.
+-- `not_got` meets its contract: case by case. Assumes nothing.
 use mathlib.Core.Path.{sym, ap}
 use borrow.Author.Needs.{needs}
 use Rattle.desk.specs.declared.GetAnswer.{GetAnswer}

@@ -1,4 +1,4 @@
--- -- `perform` meets its contract: by the kind that was read. Assumes nothing.
+-- `perform` meets its contract: by the kind that was read. Assumes nothing.
 use mathlib.Core.Path.{sym, ap, _∙_, subst}
 use Prim.Native.Nat.{ℕ}
 use lib.Dec.{eqb}

@@ -1,4 +1,4 @@
--- -- `perform_enter` meets its contract: the bytes read are the record's fields, and the desk's step does the rest. Assumes nothing.
+-- `perform_enter` meets its contract: the bytes read are the record's fields, and the desk's step does the rest. Assumes nothing.
 use mathlib.Core.Path.{_≡_, sym, ap, _∙_}
 use mathlib.Core.List.{List}
 use Prim.Native.Nat.{ℕ, _≤_}

@@ -1,4 +1,4 @@
--- -- `perform_get` meets its contract: the bytes read are the record's fields; a value is taken out, and waiting and refusal are handled apart. Assumes nothing.
+-- `perform_get` meets its contract: the bytes read are the record's fields; a value is taken out, and waiting and refusal are handled apart. Assumes nothing.
 use mathlib.Core.Path.{sym, ap}
 use borrow.Author.Needs.{needs}
 use Rattle.intervals.specs.Lists.{count}

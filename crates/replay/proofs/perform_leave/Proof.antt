@@ -1,4 +1,4 @@
--- -- `perform_leave` meets its contract: the byte read is the record's party, and the desk's step does the rest. Assumes nothing.
+-- `perform_leave` meets its contract: the byte read is the record's party, and the desk's step does the rest. Assumes nothing.
 use borrow.Author.Needs.{needs}
 use Rattle.intervals.specs.Lists.{count}
 use Rattle.blocks.specs.Bytes.{byte}

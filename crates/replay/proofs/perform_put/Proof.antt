@@ -1,4 +1,4 @@
--- -- `perform_put` meets its contract: the bytes read are the record's fields, and the desk's step does the rest. Assumes nothing.
+-- `perform_put` meets its contract: the bytes read are the record's fields, and the desk's step does the rest. Assumes nothing.
 use borrow.Author.Needs.{needs}
 use Rattle.intervals.specs.Lists.{count}
 use Rattle.blocks.specs.Bytes.{byte}

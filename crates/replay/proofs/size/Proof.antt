@@ -1,4 +1,4 @@
--- -- `size` meets its contract: n stands in the first record. Assumes nothing.
+-- `size` meets its contract: n stands in the first record. Assumes nothing.
 use mathlib.Core.Path.{sym, _∙_}
 use borrow.Author.Needs.{needs}
 use Rattle.blocks.specs.Bytes.{number2}

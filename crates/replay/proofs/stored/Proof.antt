@@ -1,4 +1,4 @@
--- -- `stored` meets its contract: case by case. Assumes nothing.
+-- `stored` meets its contract: case by case. Assumes nothing.
 use mathlib.Core.Path.{sym, ap}
 use borrow.Author.Needs.{needs}
 use Rattle.desk.specs.declared.PutAnswer.{PutAnswer}

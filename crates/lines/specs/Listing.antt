@@ -1,0 +1,68 @@
+-- The listing of a file: the lines of its steps, the last line, and what listing into lent places leaves. Assumes nothing.
+use mathlib.Core.Path.{_≡_}
+use mathlib.Core.Bool.{Bool, _||_}
+use mathlib.Core.List.{List, [], _∷_, _++_}
+use mathlib.Core.Option.{Option, none, some}
+use Prim.Native.Nat.{ℕ, suc}
+use lib.Dec.{ltb}
+use lib.ListN.{length}
+use Rattle.intervals.specs.Lists.{over}
+use Rattle.intervals.specs.Answer.{Answer, done, refused as denied, _when_, refusal, answerOf}
+use Rattle.blocks.specs.File.{roomAfter}
+use Rattle.replay.specs.Replay.{StepAnswer, FileRun, runFile}
+use Rattle.lines.specs.Text.{decimal, space, newline, refusedWord, endWord, answerText}
+use Rattle.lines.specs.declared.ListingAnswer.{ListingAnswer}
+use Rattle.lines.specs.declared.ListingAnswer.the-variants.{Listed, Refused}
+
+-- a step's line: its number, and its answer
+abbrev pub stepLine : ℕ → StepAnswer → List ℕ
+stepLine k a = (decimal k ++ space) ++ (answerText a ++ newline)
+
+-- the lines of steps numbered from k
+unfoldable pub stepLines : ℕ → List StepAnswer → List ℕ
+stepLines k [] = []
+stepLines k (a ∷ rest) = stepLine k a ++ stepLines (suc k) rest
+
+-- the last line: holders, waiters and grants
+abbrev pub endLine : ℕ → ℕ → ℕ → List ℕ
+endLine holders waiters grants = ((endWord ++ decimal holders) ++ (space ++ decimal waiters)) ++ ((space ++ decimal grants) ++ newline)
+
+-- the listing: a refused file or hierarchy gives the one line
+abbrev pub listing : Answer FileRun → List ℕ
+listing (done run) = stepLines 1 (run .answers) ++ endLine (run .holders) (run .waiters) (run .grants)
+listing (denied k) = (refusedWord ++ decimal k) ++ newline
+
+-- the values after the file; none where it is refused
+abbrev pub valuesOf : Answer FileRun → List ℕ
+valuesOf (done run) = run .values
+valuesOf (denied k) = []
+
+-- 1: a lent buffer is shorter than needed, which is 256 values, and 160 bytes for each of 3,968 steps and the last line
+abbrev pub listingRefusal : List ℕ → List ℕ → Option ℕ
+listingRefusal values text = refusal (1 when (ltb (length values) 256 || ltb (length text) 635040) ∷ [])
+
+-- what listing leaves: its answer, a count of bytes, and the lent places
+pub record ListingResult : Type 0 where
+  pub answer : Answer ℕ
+  pub values : List ℕ
+  pub text : List ℕ
+
+-- listing a file: the count of the listing's bytes, these bytes from the text's first on, and the values from the first on
+unfoldable pub listFile : List ℕ → List ℕ → List ℕ → ListingResult
+listFile file values text =
+    record {
+      answer = answerOf (listingRefusal values text) (length (listing (runFile file)));
+      values = roomAfter (listingRefusal values text) (valuesOf (runFile file)) values;
+      text = roomAfter (listingRefusal values text) (listing (runFile file)) text;
+    }
+
+-- what each case of the answer is in the paper
+abbrev pub listingMeaning : ListingAnswer → Answer ℕ
+listingMeaning (Listed bytes) = done bytes
+listingMeaning (Refused k) = denied k
+
+-- what `listing` promises
+pub record Lists (r : ListingAnswer) (values text : List ℕ) (s : ListingResult) : Type 0 where
+  pub answer : listingMeaning r ≡ s .answer
+  pub values-after : values ≡ s .values
+  pub text-after : text ≡ s .text
