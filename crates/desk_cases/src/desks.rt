@@ -58,6 +58,16 @@ pub fn writing(cover: u16, low: u16, high: u16) -> Lock {
     }
 }
 
+// A lock on node 3.
+pub fn on_3(mode: Mode) -> Lock {
+    Lock {
+        mode,
+        cover: 3,
+        low: 1,
+        high: 1,
+    }
+}
+
 // The desk with another stage for a party from 0 to 31.
 fn with(d: Desk, party: usize, s: Stage) -> Desk {
     let mut next = d;
@@ -115,4 +125,15 @@ pub fn four_steps() -> Desk {
     let d3 = holding(d2, 3, reading(3, 1, 1));
     let d4 = queued(d3, 4, reading(0, 1, 4));
     granting(d4, 2)
+}
+
+// Party 0 writes node 0, and all others wait for that lock, in the order of their numbers.
+pub fn full(l: Lock) -> Desk {
+    let mut d = holding(Desk::fresh(), 0, writing(0, 1, 4));
+    let mut party: u8 = 1;
+    while party < 32 {
+        d = queued(d, party, l);
+        party += 1;
+    }
+    granting(d, 1)
 }

@@ -19,12 +19,37 @@ fn fresh() -> Desk {
     Desk::fresh()
 }
 
+// Enter, for reading, on the desk after the four steps.
+fn enter_named(party: usize, names: &[u16], named: usize) {
+    crate::lines::enter_named(desk(), party, Mode::Reading, names, named);
+}
+
+// The same with as many names as are lent.
+fn enter(party: usize, names: &[u16]) {
+    enter_named(party, names, names.len());
+}
+
+// Get on the desk after the four steps.
+fn get(party: usize, node: usize) {
+    crate::lines::get_fresh(desk(), party, node);
+}
+
+// Put on the desk after the four steps.
+fn put(party: usize, node: usize, value: u64) {
+    crate::lines::put_fresh(desk(), party, node, value);
+}
+
+// Leave on the desk after the four steps.
+fn leave(party: usize) {
+    crate::lines::leave(desk(), party);
+}
+
 // Row 1: fewer names than the name count says.
 fn short_names() {
-    crate::lines::enter_named(desk(), 5, Mode::Reading, &[7], 2);
-    crate::lines::enter_named(desk(), 5, Mode::Reading, &[], 1);
-    crate::lines::enter_named(desk(), 32, Mode::Reading, &[3, 3, 3, 3, 3, 3, 3, 3], 9);
-    crate::lines::enter_named(desk(), 1, Mode::Reading, &[99], 18446744073709551615);
+    enter_named(5, &[7], 2);
+    enter_named(5, &[], 1);
+    enter_named(32, &[3, 3, 3, 3, 3, 3, 3, 3], 9);
+    enter_named(1, &[99], 18446744073709551615);
 }
 
 // Row 1: 9 values for 10 nodes.
@@ -55,10 +80,10 @@ fn party(k: usize) {
 fn parties() {
     party(32);
     party(18446744073709551615);
-    crate::lines::get_fresh(desk(), 257, 9);
-    crate::lines::leave(desk(), 4294967297);
-    crate::lines::enter(desk(), 32, Mode::Reading, &[]);
-    crate::lines::put_fresh(desk(), 32, 10, 1);
+    get(257, 9);
+    leave(4294967297);
+    enter(32, &[]);
+    put(32, 10, 1);
 }
 
 // Party 31 is one.
@@ -73,9 +98,9 @@ fn last_party() {
 fn not_out() {
     let d = crate::lines::enter(fresh(), 1, Mode::Reading, &[3]);
     crate::lines::enter(d, 1, Mode::Reading, &[3]);
-    crate::lines::enter(desk(), 4, Mode::Reading, &[3]);
-    crate::lines::enter(desk(), 1, Mode::Reading, &[]);
-    crate::lines::enter(desk(), 4, Mode::Reading, &[10]);
+    enter(4, &[3]);
+    enter(1, &[]);
+    enter(4, &[10]);
 }
 
 // Row 13; 13 before 15.
@@ -83,55 +108,55 @@ fn out() {
     crate::lines::leave(fresh(), 4);
     crate::lines::get_fresh(fresh(), 4, 9);
     crate::lines::put_fresh(fresh(), 4, 9, 1);
-    crate::lines::leave(desk(), 5);
-    crate::lines::get_fresh(desk(), 5, 10);
-    crate::lines::put_fresh(desk(), 5, 10, 1);
+    leave(5);
+    get(5, 10);
+    put(5, 10, 1);
 }
 
 // Row 14; 14 before 15, 16 and 17.
 fn waiting() {
-    crate::lines::get_fresh(desk(), 4, 9);
-    crate::lines::put_fresh(desk(), 4, 9, 1);
-    crate::lines::get_fresh(desk(), 4, 10);
-    crate::lines::put_fresh(desk(), 4, 10, 1);
-    crate::lines::get_fresh(desk(), 2, 3);
+    get(4, 9);
+    put(4, 9, 1);
+    get(4, 10);
+    put(4, 10, 1);
+    get(2, 3);
 }
 
 // Row 15: the name count.
 fn name_count() {
-    crate::lines::enter(desk(), 5, Mode::Reading, &[]);
-    crate::lines::enter_named(desk(), 5, Mode::Reading, &[3], 0);
-    crate::lines::enter(desk(), 5, Mode::Reading, &[3, 3, 3, 3, 3, 3, 3, 3, 3]);
-    crate::lines::enter(desk(), 5, Mode::Reading, &[3, 3, 3, 3, 3, 3, 3, 3]);
+    enter(5, &[]);
+    enter_named(5, &[3], 0);
+    enter(5, &[3, 3, 3, 3, 3, 3, 3, 3, 3]);
+    enter(5, &[3, 3, 3, 3, 3, 3, 3, 3]);
     crate::lines::enter(fresh(), 5, Mode::Writing, &[9, 8, 7, 6, 5, 2, 8, 9]);
     crate::lines::enter(fresh(), 5, Mode::Writing, &[9, 8, 7, 6, 5, 4, 3, 2, 1]);
 }
 
 // Row 15: a node not below n, named or asked for; 15 before 16 and 17. A name past the name count is not looked at.
 fn nodes() {
-    crate::lines::enter(desk(), 5, Mode::Reading, &[10]);
-    crate::lines::enter(desk(), 5, Mode::Reading, &[3, 65535]);
-    crate::lines::enter(desk(), 5, Mode::Reading, &[3, 3, 3, 3, 3, 3, 3, 10]);
-    crate::lines::enter_named(desk(), 5, Mode::Reading, &[3, 10], 1);
-    crate::lines::get_fresh(desk(), 1, 10);
-    crate::lines::put_fresh(desk(), 1, 10, 1);
-    crate::lines::get_fresh(desk(), 1, 18446744073709551615);
-    crate::lines::put_fresh(desk(), 3, 10, 1);
+    enter(5, &[10]);
+    enter(5, &[3, 65535]);
+    enter(5, &[3, 3, 3, 3, 3, 3, 3, 10]);
+    enter_named(5, &[3, 10], 1);
+    get(1, 10);
+    put(1, 10, 1);
+    get(1, 18446744073709551615);
+    put(3, 10, 1);
 }
 
 // Row 16; 16 before 17.
 fn outside() {
-    crate::lines::get_fresh(desk(), 3, 4);
-    crate::lines::put_fresh(desk(), 3, 4, 1);
-    crate::lines::get_fresh(desk(), 1, 8);
-    crate::lines::get_fresh(desk(), 1, 2);
-    crate::lines::put_fresh(desk(), 1, 3, 1);
+    get(3, 4);
+    put(3, 4, 1);
+    get(1, 8);
+    get(1, 2);
+    put(1, 3, 1);
 }
 
 // Row 17.
 fn reading() {
-    crate::lines::get_fresh(desk(), 3, 3);
-    crate::lines::put_fresh(desk(), 3, 3, 1);
+    get(3, 3);
+    put(3, 3, 1);
 }
 
 // All these rows.

@@ -38,116 +38,107 @@ fn desk() -> Desk {
     crate::desks::four_steps()
 }
 
-// The arrival list.
+// With a number more in the arrival list.
+fn listed(what: &[u8], party: u8) {
+    on(what, crate::desks::listing(desk(), party));
+}
+
+// With another count of waiting parties.
+fn counted(what: &[u8], count: usize) {
+    on(what, crate::desks::counting(desk(), count));
+}
+
+// With a party that holds for reading.
+fn reads(what: &[u8], party: usize, cover: u16, low: u16, high: u16) {
+    let l = crate::desks::reading(cover, low, high);
+    on(what, crate::desks::holding(desk(), party, l));
+}
+
+// With a party that holds for writing.
+fn writes(what: &[u8], party: usize, cover: u16, low: u16, high: u16) {
+    let l = crate::desks::writing(cover, low, high);
+    on(what, crate::desks::holding(desk(), party, l));
+}
+
+// With 4, which is listed, waiting for another lock: to write, so that 1 or 3 is always in its way.
+fn waits(what: &[u8], cover: u16, low: u16, high: u16) {
+    let l = crate::desks::writing(cover, low, high);
+    on(what, crate::desks::waiting(desk(), 4, l));
+}
+
+// Who is listed.
 fn lists() {
     on(b"sound", desk());
-    on(b"2 listed twice", crate::desks::listing(desk(), 2));
-    on(b"4 listed twice", crate::desks::listing(desk(), 4));
-    on(b"32 listed", crate::desks::listing(desk(), 32));
-    on(b"255 listed", crate::desks::listing(desk(), 255));
-    on(
-        b"4 waits and is not listed",
-        crate::desks::counting(desk(), 1),
-    );
-    on(b"nobody is listed", crate::desks::counting(desk(), 0));
-    on(b"5 is out and listed", crate::desks::listing(desk(), 5));
-    on(b"3 holds and is listed", crate::desks::listing(desk(), 3));
-    on(b"33 in the list", crate::desks::counting(desk(), 33));
-    on(
-        b"the most in the list",
-        crate::desks::counting(desk(), 18446744073709551615),
-    );
-    on(
-        b"2^32 + 2 in the list",
-        crate::desks::counting(desk(), 4294967298),
-    );
+    listed(b"2 listed twice", 2);
+    listed(b"4 listed twice", 4);
+    listed(b"32 listed", 32);
+    listed(b"255 listed", 255);
+    listed(b"5 is out and listed", 5);
+    listed(b"3 holds and is listed", 3);
+}
+
+// How many are listed.
+fn counts() {
+    counted(b"4 waits and is not listed", 1);
+    counted(b"nobody is listed", 0);
+    counted(b"33 in the list", 33);
+    counted(b"the most in the list", 18446744073709551615);
+    counted(b"2^32 + 2 in the list", 4294967298);
 }
 
 // Covers and intervals: 3 holds node 3, whose interval is [1,1].
 fn covers() {
-    on(
-        b"cover 10",
-        crate::desks::holding(desk(), 3, crate::desks::reading(10, 1, 1)),
-    );
-    on(
-        b"cover 65535",
-        crate::desks::holding(desk(), 3, crate::desks::reading(65535, 1, 1)),
-    );
-    on(
-        b"cover 3 with [1,2]",
-        crate::desks::holding(desk(), 3, crate::desks::reading(3, 1, 2)),
-    );
-    on(
-        b"cover 4 with [1,2]",
-        crate::desks::holding(desk(), 3, crate::desks::reading(4, 1, 2)),
-    );
-    on(
-        b"cover 3 with [0,1]",
-        crate::desks::holding(desk(), 3, crate::desks::reading(3, 0, 1)),
-    );
-    on(
-        b"a waiter's cover 10",
-        crate::desks::waiting(desk(), 4, crate::desks::writing(10, 1, 1)),
-    );
-    on(
-        b"a waiter's cover 0 with [1,3]",
-        crate::desks::waiting(desk(), 4, crate::desks::reading(0, 1, 3)),
-    );
-    on(
-        b"a waiter's cover 1 with [1,4]",
-        crate::desks::waiting(desk(), 4, crate::desks::reading(1, 1, 4)),
-    );
+    reads(b"cover 10", 3, 10, 1, 1);
+    reads(b"cover 65535", 3, 65535, 1, 1);
+    reads(b"cover 3 with [1,2]", 3, 3, 1, 2);
+    reads(b"cover 4 with [1,2]", 3, 4, 1, 2);
+    reads(b"cover 3 with [0,1]", 3, 3, 0, 1);
+}
+
+// The same of a waiter; 4 may wait to write node 0.
+fn waiting_covers() {
+    waits(b"a waiter's cover 0", 0, 1, 4);
+    waits(b"a waiter's cover 10", 10, 1, 1);
+    waits(b"a waiter's cover 0 with [1,3]", 0, 1, 3);
+    waits(b"a waiter's cover 1 with [1,4]", 1, 1, 4);
 }
 
 // Holders that conflict: a writer with a reader, on one node and on two; two writers. Two readers do not.
 fn holders() {
-    on(
-        b"5 reads what 3 reads",
-        crate::desks::holding(desk(), 5, crate::desks::reading(3, 1, 1)),
-    );
-    on(
-        b"0 writes what 3 reads",
-        crate::desks::holding(desk(), 0, crate::desks::writing(3, 1, 1)),
-    );
-    on(
-        b"31 writes what 3 reads",
-        crate::desks::holding(desk(), 31, crate::desks::writing(3, 1, 1)),
-    );
-    on(
-        b"5 reads over what 1 writes",
-        crate::desks::holding(desk(), 5, crate::desks::reading(2, 3, 4)),
-    );
-    on(
-        b"5 writes what 1 writes",
-        crate::desks::holding(desk(), 5, crate::desks::writing(9, 3, 3)),
-    );
+    reads(b"5 reads what 3 reads", 5, 3, 1, 1);
+    writes(b"0 writes what 3 reads", 0, 3, 1, 1);
+    writes(b"31 writes what 3 reads", 31, 3, 1, 1);
+    reads(b"5 reads over what 1 writes", 5, 2, 3, 4);
+    writes(b"5 writes what 1 writes", 5, 9, 3, 3);
 }
 
-// Waiters that conflict with nobody before them. 6 and 7 wait for node 3, which 3 reads.
+// With 6 last in arrival order, for node 3, which 3 reads.
+fn six(d: Desk, mode: Mode) -> Desk {
+    let l = crate::desks::on_3(mode);
+    crate::desks::queued(d, 6, l)
+}
+
+// With 7 last in arrival order, to write node 3.
+fn seven(d: Desk) -> Desk {
+    let l = crate::desks::on_3(Mode::Writing);
+    crate::desks::queued(d, 7, l)
+}
+
+// Waiters that conflict with nobody before them, and some that do.
 fn waiters() {
-    let reads = crate::desks::reading(3, 1, 1);
-    let writes = crate::desks::writing(3, 1, 1);
-    on(
-        b"6 waits to read for nobody",
-        crate::desks::queued(desk(), 6, reads),
-    );
-    let six = crate::desks::queued(desk(), 6, reads);
+    on(b"6 waits to read for nobody", six(desk(), Mode::Reading));
     on(
         b"6 waits to read for 7 behind it",
-        crate::desks::queued(six, 7, writes),
+        seven(six(desk(), Mode::Reading)),
     );
-    let seven = crate::desks::queued(desk(), 7, writes);
     on(
         b"6 waits to read for 7 before it",
-        crate::desks::queued(seven, 6, reads),
+        six(seven(desk()), Mode::Reading),
     );
-    on(
-        b"6 waits to write for 3",
-        crate::desks::queued(desk(), 6, writes),
-    );
+    on(b"6 waits to write for 3", six(desk(), Mode::Writing));
     on(
         b"6 waits at a desk of nobody else",
-        crate::desks::queued(Desk::fresh(), 6, writes),
+        six(Desk::fresh(), Mode::Writing),
     );
 }
 
@@ -168,7 +159,9 @@ fn lowest() {
 pub fn run() {
     crate::said::text(b"ROW 10, DESKS\n");
     lists();
+    counts();
     covers();
+    waiting_covers();
     holders();
     waiters();
     lowest();

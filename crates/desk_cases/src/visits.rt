@@ -67,6 +67,12 @@ fn in_arrival_order() {
     crate::lines::leave(d6, 4);
 }
 
+// 31 wait for one: all readers go at once, of the writers one.
+fn all_waiting() {
+    crate::lines::leave(crate::desks::full(crate::desks::reading(0, 1, 4)), 0);
+    crate::lines::leave(crate::desks::full(crate::desks::writing(0, 1, 4)), 0);
+}
+
 // The desk with another count of grants, which begins the line.
 fn counted(d: Desk, grants: u32) -> Desk {
     crate::said::number(b"grants ", grants as u64);
@@ -113,6 +119,7 @@ pub fn run() {
     short_visit();
     crate::said::text(b"ARRIVAL ORDER\n");
     in_arrival_order();
+    all_waiting();
     crate::said::text(b"GRANTS\n");
     grants();
 }
