@@ -1,0 +1,82 @@
+/* Compares hold_conflict with a plain version written here from the rule: numbers shared one by one, not by the ends.
+   Prints the first difference and the count of comparisons; exits 1 on any difference. */
+#include "record_desk.h"
+
+#include <stdio.h>
+
+struct hold {
+    uint32_t mode, low, high;
+};
+
+static unsigned long compared, differing;
+
+static int in_range(uint32_t end)
+{
+    return 1 <= end && end <= 256;
+}
+
+/* Mode 1 or 2, an interval within 1 to 256, low not above high. */
+static int is_hold(struct hold h)
+{
+    return (h.mode == 1 || h.mode == 2) && in_range(h.low) && in_range(h.high) && !(h.low > h.high);
+}
+
+static int has(struct hold h, uint32_t number)
+{
+    return h.low <= number && number <= h.high;
+}
+
+/* Two holds conflict if their intervals share a number and not both are reading. */
+static uint32_t plain(struct hold a, struct hold b)
+{
+    if (!is_hold(a) || !is_hold(b))
+        return 10;
+    if (a.mode == 1 && b.mode == 1)
+        return 0;
+    for (uint32_t number = 1; number <= 256; number++)
+        if (has(a, number) && has(b, number))
+            return 1;
+    return 0;
+}
+
+static void compare(struct hold a, struct hold b)
+{
+    uint32_t found = hold_conflict(a.mode, a.low, a.high, b.mode, b.low, b.high), expected = plain(a, b);
+    compared++;
+    if (found != expected && differing++ == 0)
+        printf("conflict: mode %lu [%lu,%lu] with mode %lu [%lu,%lu]: %lu, expected %lu\n", (unsigned long)a.mode,
+            (unsigned long)a.low, (unsigned long)a.high, (unsigned long)b.mode, (unsigned long)b.low,
+            (unsigned long)b.high, (unsigned long)found, (unsigned long)expected);
+}
+
+/* Every pair of modes, on two intervals. */
+static void all_modes(uint32_t low, uint32_t high, uint32_t low2, uint32_t high2)
+{
+    static const uint32_t modes[] = {0, 1, 2, 3, 256, 65537, UINT32_MAX};
+    enum { MODES = sizeof modes / sizeof modes[0] };
+
+    for (int i = 0; i < MODES; i++)
+        for (int j = 0; j < MODES; j++)
+            compare((struct hold){modes[i], low, high}, (struct hold){modes[j], low2, high2});
+}
+
+/* Every pair of intervals whose four ends are among these. */
+static void all_intervals(const uint32_t *ends, int count)
+{
+    for (int i = 0; i < count; i++)
+        for (int j = 0; j < count; j++)
+            for (int k = 0; k < count; k++)
+                for (int m = 0; m < count; m++)
+                    all_modes(ends[i], ends[j], ends[k], ends[m]);
+}
+
+int main(void)
+{
+    static const uint32_t small[] = {0, 1, 2, 3, 4, 5, 6, 7};
+    static const uint32_t large[] = {0, 1, 2, 128, 255, 256, 257, 65535, 65536, 65537, 65792, UINT32_MAX};
+
+    all_intervals(small, sizeof small / sizeof small[0]);
+    all_intervals(large, sizeof large / sizeof large[0]);
+    printf("conflict: %lu comparisons, %lu differ\n", compared, differing);
+    return differing != 0;
+}
