@@ -5,16 +5,19 @@
 
 LISTING is the program. It prints the seed, how often each answer and each refusal was seen, and the first difference; it exits 1 where there is
 one, or where a kind of answer that the paper has was never seen. --keep writes the file that differs into DIR.
-Files are valid, damaged with and without a check that was made right again, misordered, and of legal and illegal hierarchies; most steps
-take effect, since the generator follows the desk with the model and picks parties and records by it.
+Files are valid, of the wrong length, damaged with and without a check that was made right again (in all blocks, or in some), misordered,
+of legal and illegal hierarchies, and now and then of 128 or 129 blocks; most steps take effect, since the generator follows the desk with
+the model and picks parties and records by it.
 """
 import argparse
 import collections
+import itertools
 import os
 import random
 import subprocess
 import sys
 
+sys.dont_write_bytecode = True
 sys.path.insert(0, os.path.dirname(os.path.abspath(__file__)))
 import model  # noqa: E402
 
@@ -33,11 +36,12 @@ def blocks(records):
     return out
 
 
-def mended(data):
-    """The same with every block's check made right."""
+def mended(data, which=lambda: True):
+    """The same with the check made right: every block's, or of those blocks for which `which` says so."""
     out = bytearray(data)
     for i in range(0, len(out) - 511, 512):
-        out[i + 508:i + 512] = model.check(bytes(out[i:i + 508])).to_bytes(4, "little")
+        if which():
+            out[i + 508:i + 512] = model.check(bytes(out[i:i + 508])).to_bytes(4, "little")
     return bytes(out)
 
 
@@ -72,7 +76,7 @@ def spoiled(rnd, n, edges):
         elif fault == 2:
             edges.append((min(n, 255), 1))
         elif fault == 3:
-            edges.append((min(n, 256) - 1, 0))
+            edges.append((max(1, min(n, 256)) - 1, 0))
         elif fault == 4:
             edges.append((1, 1))
         elif fault == 5 and edges:
@@ -86,35 +90,43 @@ def spoiled(rnd, n, edges):
 # ---- steps
 
 def steps(rnd, h, count):
+    """Steps that mostly take effect, since the model's desk says who is where; one in eight is picked blindly."""
     desk, out = model.Desk(h), []
-    for _ in range(count):
-        waiting, holding = list(desk.calls), list(desk.holds)
-        away = [p for p in range(32) if p not in desk.calls and p not in desk.holds]
-        party = rnd.randrange(256) if rnd.random() < 0.03 else rnd.randrange(34)
-        choice = rnd.random()
-        if choice < 0.38:
-            if away and rnd.random() < 0.95:
+    most = rnd.choice((2, 4, 8, 32))
+    while len(out) < count:
+        holding, inside = list(desk.holds), [*desk.holds, *desk.calls]
+        writing = [p for p in holding if desk.holds[p][0] == model.WRITING]
+        away = [p for p in range(32) if p not in inside]
+        party, node = rnd.randrange(34 if rnd.random() < 0.9 else 256), rnd.randrange(h.n if rnd.random() < 0.95 else 256)
+        if inside and rnd.random() < 0.7:
+            party = rnd.choice(inside)
+        blind, choice = rnd.random() < 0.125, rnd.random()
+        if not blind:
+            if not holding:
+                choice = 0
+            elif choice < 0.35 and len(inside) >= most:
+                choice = 1
+            elif 0.55 <= choice < 0.75 and not writing:
+                choice = 0.5
+        if choice < 0.35:
+            if not blind:
                 party = rnd.choice(away)
-            names = [rnd.randrange(h.n if rnd.random() < 0.99 else 256) for _ in range(rnd.choice((1, 1, 1, 2, 3, 8)))]
+            names = [rnd.randrange(h.n) for _ in range(rnd.choice((1, 1, 1, 2, 3, 8)))]
+            names[rnd.randrange(len(names))] = node
             r = record(3, party, rnd.choice((1, 2)), len(names), *names)
         elif choice < 0.75:
-            if holding and rnd.random() < 0.9:
-                party = rnd.choice(holding)
-            node = rnd.randrange(h.n)
-            if party in desk.holds and rnd.random() < 0.85:
+            if not blind:
+                party = rnd.choice(holding if choice < 0.55 else writing)
                 cover = desk.holds[party][1]
-                inside = [x for x in range(h.n) if h.contains(cover, h.low[x], h.high[x])]
-                node = rnd.choice(inside)
-            if rnd.random() < 0.02:
-                node = rnd.randrange(256)
+                node = rnd.choice([x for x in range(h.n) if h.contains(cover, h.low[x], h.high[x])])
             if choice < 0.55:
                 r = record(4, party, node)
             else:
                 value = rnd.choice((0, 1, rnd.getrandbits(64), 2**64 - 1, rnd.randrange(1000)))
                 r = record(5, party, node, 0, *value.to_bytes(8, "little"))
         else:
-            if (holding or waiting) and rnd.random() < 0.95:
-                party = rnd.choice(holding if holding and rnd.random() < 0.8 or not waiting else waiting)
+            if not blind:
+                party = rnd.choice(holding if rnd.random() < 0.7 else inside)
             r = record(6, party)
         out.append(r)
         try:
@@ -124,48 +136,59 @@ def steps(rnd, h, count):
     return out
 
 
+# ---- files
+
 def damaged(rnd, data, records):
-    """One fault in the bytes, or records out of order."""
-    kind = rnd.randrange(8)
-    out = bytearray(data)
+    """What was done, and the bytes."""
+    kind, out = rnd.randrange(8), bytearray(data)
+
+    def block():
+        return 512 * rnd.randrange(len(out) // 512)
+
     if kind == 0:
-        return data[:rnd.randrange(len(data))] if rnd.random() < 0.7 else data + bytes(rnd.choice((1, 511, 512)))
+        return "length", data[:rnd.randrange(len(data))] if rnd.random() < 0.7 else data + bytes(rnd.choice((1, 511, 512)))
     if kind == 1:
         out[rnd.randrange(len(out))] ^= 1 << rnd.randrange(8)
-        return bytes(out)
+        return "damaged, check left", bytes(out)
     if kind == 2:
+        a, b = block(), block()
+        out[a:a + 512], out[b:b + 512] = out[b:b + 512], out[a:a + 512]
+        return "misordered", bytes(out)
+    if kind == 3:
         moved = list(records)
         a, b = rnd.randrange(len(moved)), rnd.randrange(len(moved))
         moved[a], moved[b] = moved[b], moved[a]
-        return blocks(moved)
-    if kind == 3:
-        place = rnd.choice((0, 1, 4, 5, 6, 7, 504, 505, 506, 507)) + 512 * rnd.randrange(len(out) // 512)
-        out[place] = rnd.randrange(256)
-        return mended(out)
+        return "misordered", blocks(moved)
     if kind == 4:
-        for _ in range(2):
-            out[rnd.randrange(len(out))] ^= 1 << rnd.randrange(8)
-        return bytes(out)
-    at = 512 * rnd.randrange(len(out) // 512) + 8 + rnd.randrange(496)
-    out[at] = rnd.randrange(256) if rnd.random() < 0.5 else rnd.randrange(9)
-    return mended(out)
+        for _ in range(rnd.randrange(2, 5)):
+            out[block() + rnd.randrange(508)] ^= 1 << rnd.randrange(8)
+        return "damaged, some checks corrected", mended(out, lambda: rnd.random() < 0.6)
+    if kind == 5:
+        out[block() + rnd.choice((0, 1, 2, 3, 4, 5, 6, 7, 504, 505, 506, 507))] = rnd.randrange(256)
+    else:
+        out[block() + 8 + rnd.randrange(496)] = rnd.randrange(256) if rnd.random() < 0.5 else rnd.randrange(9)
+    return "damaged, check corrected", mended(out)
 
 
 def one(rnd):
+    """The kind of a file, and its bytes."""
     style = rnd.random()
     if style < 0.01:
-        return b"" if rnd.random() < 0.3 else rnd.randbytes(rnd.choice((1, 511, 512, 513, 1024, 65536, 65537)))
+        return "noise", rnd.randbytes(rnd.choice((0, 0, 1, 511, 512, 513, 1024, 65536, 65537, 66048, 131072)))
     n = rnd.choice((1, 2, 3, 4, 5, 6, 8, 10, 12, 16, 24, 40)) if style < 0.95 else rnd.choice((100, 255, 256))
     edges = legal(rnd, n, rnd.choice((0, 2, n, 2 * n)) if style < 0.95 else rnd.choice((100, 1024)))
+    kind, count = "legal", rnd.choice((0, 1, 5, 20, 40, 80, 160))
     if rnd.random() < 0.12:
-        n, edges = spoiled(rnd, n, edges)
+        kind, (n, edges) = "illegal hierarchy", spoiled(rnd, n, edges)
+    elif style < 0.014:
+        kind, count = "128 or 129 blocks", rnd.choice((3968, 3968, 3969)) - 1 - len(edges)
     records = [record(1, n & 255, n >> 8), *(record(2, p, c) for p, c in edges)]
     try:
-        records += steps(rnd, model.Hierarchy(n, edges), rnd.choice((0, 1, 5, 20, 40, 80, 160)))
+        records += steps(rnd, model.Hierarchy(n, edges), count)
     except model.Refusal:
         pass
     data = blocks(records)
-    return damaged(rnd, data, records) if rnd.random() < 0.2 else data
+    return damaged(rnd, data, records) if rnd.random() < 0.2 else (kind, data)
 
 
 def word(line):
@@ -176,40 +199,55 @@ def word(line):
 WANTED = ["granted", "waits", "value", "stored", "left", "end", *(f"refused {k}" for k in (2, 3, 4, 5, 6, 7, 8, 9, 11, 12, 13, 14, 15, 16, 17))]
 
 
+def run(program, data):
+    """What the program printed; what else went wrong, in words."""
+    try:
+        got = subprocess.run([program], input=data, capture_output=True, timeout=60)
+    except subprocess.TimeoutExpired:
+        return "", "did not end in a minute"
+    said = f"exit status {got.returncode}" if got.returncode else "wrote to standard error" if got.stderr else ""
+    return got.stdout.decode(errors="replace"), said
+
+
 def main():
     a = argparse.ArgumentParser(description="compares the listing program with the model on random files")
     a.add_argument("listing")
     a.add_argument("--files", type=int, default=3000)
     a.add_argument("--seed", type=int, default=20261115)
-    a.add_argument("--keep")
+    a.add_argument("--keep", metavar="DIR", help="write the file that differs there")
     args = a.parse_args()
+    if not os.access(args.listing, os.X_OK):
+        print(f"no such program: {args.listing}")
+        return 1
     rnd = random.Random(args.seed)
-    seen = collections.Counter()
-    freed = passed = 0
+    seen, kinds = collections.Counter(), collections.Counter()
+    one_freed = more_freed = 0
     for k in range(args.files):
-        data = one(rnd)
+        kind, data = one(rnd)
         want = "".join(line + "\n" for line in model.listing(data))
-        got = subprocess.run([args.listing], input=data, capture_output=True)
-        if got.returncode or got.stdout != want.encode() or got.stderr:
-            print(f"seed {args.seed}: file {k} of {len(data)} bytes differs (exit {got.returncode})")
-            pairs = zip(want.splitlines() + ["(nothing)"], got.stdout.decode(errors="replace").splitlines() + ["(nothing)"])
-            for i, (w, g) in enumerate(pairs, 1):
-                if w != g:
-                    print(f"line {i}: the model has '{w}', the listing '{g}'")
-                    break
+        got, said = run(args.listing, data)
+        if said or got != want:
+            print(f"seed {args.seed}: file {k}, {kind}, {len(data)} bytes: differs" + (f" ({said})" if said else ""))
+            pairs = itertools.zip_longest(want.split("\n"), got.split("\n"), fillvalue="nothing")
+            first = next(((i, w, g) for i, (w, g) in enumerate(pairs, 1) if w != g), None)
+            if first:
+                print("line {}: the model has '{}', the program '{}'".format(*first))
             if args.keep:
-                with open(os.path.join(args.keep, f"differs-{args.seed}-{k}.blk"), "wb") as f:
+                with open(os.path.join(args.keep, f"differs-{args.seed}-{k}.blocks"), "wb") as f:
                     f.write(data)
             return 1
+        kinds[kind] += 1
         for line in want.splitlines():
             seen[word(line)] += 1
             if " left " in line:
-                freed += 1
-                passed += len(line.split()) > 3
+                one_freed += len(line.split()) == 3
+                more_freed += len(line.split()) > 3
     print(f"seed {args.seed}: {args.files} files agree")
-    print(", ".join(f"{w} {seen[w]}" for w in WANTED))
-    print(f"leaves that granted a waiter {freed}, more than one {passed}")
+    print("files: " + ", ".join(f"{w} {n}" for w, n in sorted(kinds.items())))
+    print("lines: " + ", ".join(f"{w} {seen[w]}" for w in WANTED))
+    print(f"leaves that granted one waiter {one_freed}, several {more_freed}")
     missing = [w for w in WANTED if not seen[w]]
+    missing += [w for w, n in (("a leave that grants one", one_freed), ("a leave that grants several", more_freed)) if not n]
     if missing:
         print("never seen: " + ", ".join(missing))
         return 1

@@ -320,7 +320,7 @@ fn table_t() {
 }
 
 // All cases of this layer.
-pub fn run() {
+pub(crate) fn run() {
     short_places();
     short_edges();
     short_scratch(b"n = 2, 2047 bytes of scratch", 2);

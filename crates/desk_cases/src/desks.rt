@@ -6,7 +6,7 @@ use desk::Mode;
 use desk::Stage;
 
 // T's edges.
-pub fn edges() -> [u16; 22] {
+pub(crate) fn edges() -> [u16; 22] {
     [
         0,
         1,
@@ -34,12 +34,12 @@ pub fn edges() -> [u16; 22] {
 }
 
 // T's intervals.
-pub fn intervals() -> [u16; 20] {
+pub(crate) fn intervals() -> [u16; 20] {
     [1, 4, 1, 2, 3, 4, 1, 1, 2, 2, 3, 3, 3, 4, 3, 3, 4, 4, 3, 3]
 }
 
 // A reading lock.
-pub fn reading(cover: u16, low: u16, high: u16) -> Lock {
+pub(crate) fn reading(cover: u16, low: u16, high: u16) -> Lock {
     Lock {
         mode: Mode::Reading,
         cover,
@@ -49,7 +49,7 @@ pub fn reading(cover: u16, low: u16, high: u16) -> Lock {
 }
 
 // A writing lock.
-pub fn writing(cover: u16, low: u16, high: u16) -> Lock {
+pub(crate) fn writing(cover: u16, low: u16, high: u16) -> Lock {
     Lock {
         mode: Mode::Writing,
         cover,
@@ -59,7 +59,7 @@ pub fn writing(cover: u16, low: u16, high: u16) -> Lock {
 }
 
 // A lock on node 3.
-pub fn on_3(mode: Mode) -> Lock {
+pub(crate) fn on_3(mode: Mode) -> Lock {
     Lock {
         mode,
         cover: 3,
@@ -78,17 +78,17 @@ fn with(d: Desk, party: usize, s: Stage) -> Desk {
 }
 
 // The desk with a holder.
-pub fn holding(d: Desk, party: usize, l: Lock) -> Desk {
+pub(crate) fn holding(d: Desk, party: usize, l: Lock) -> Desk {
     with(d, party, Stage::Holding(l))
 }
 
 // The desk with a waiting party that is not listed.
-pub fn waiting(d: Desk, party: usize, l: Lock) -> Desk {
+pub(crate) fn waiting(d: Desk, party: usize, l: Lock) -> Desk {
     with(d, party, Stage::Waiting(l))
 }
 
 // The desk with a number last in the arrival list, where it has a place.
-pub fn listing(d: Desk, party: u8) -> Desk {
+pub(crate) fn listing(d: Desk, party: u8) -> Desk {
     let at = d.waiting;
     let mut next = d;
     if at < 32 {
@@ -99,27 +99,27 @@ pub fn listing(d: Desk, party: u8) -> Desk {
 }
 
 // The desk with a waiting party last in arrival order.
-pub fn queued(d: Desk, party: u8, l: Lock) -> Desk {
+pub(crate) fn queued(d: Desk, party: u8, l: Lock) -> Desk {
     let listed = listing(d, party);
     waiting(listed, party as usize, l)
 }
 
 // The desk with another count of waiting parties.
-pub fn counting(d: Desk, count: usize) -> Desk {
+pub(crate) fn counting(d: Desk, count: usize) -> Desk {
     let mut next = d;
     next.waiting = count;
     next
 }
 
 // The desk with another count of grants.
-pub fn granting(d: Desk, grants: u32) -> Desk {
+pub(crate) fn granting(d: Desk, grants: u32) -> Desk {
     let mut next = d;
     next.grants = grants;
     next
 }
 
 // The desk after the first four steps of the listing: 1 and 3 hold, 2 and 4 wait.
-pub fn four_steps() -> Desk {
+pub(crate) fn four_steps() -> Desk {
     let d1 = holding(Desk::fresh(), 1, writing(5, 3, 3));
     let d2 = queued(d1, 2, reading(2, 3, 4));
     let d3 = holding(d2, 3, reading(3, 1, 1));
@@ -128,7 +128,7 @@ pub fn four_steps() -> Desk {
 }
 
 // Party 0 writes node 0, and all others wait for that lock, in the order of their numbers.
-pub fn full(l: Lock) -> Desk {
+pub(crate) fn full(l: Lock) -> Desk {
     let mut d = holding(Desk::fresh(), 0, writing(0, 1, 4));
     let mut party: u8 = 1;
     while party < 32 {

@@ -3,7 +3,7 @@ use desk::Desk;
 use desk::Mode;
 
 // The line of an enter with its name count; the next desk.
-pub fn enter_named(d: Desk, party: usize, mode: Mode, names: &[u16], named: usize) -> Desk {
+pub(crate) fn enter_named(d: Desk, party: usize, mode: Mode, names: &[u16], named: usize) -> Desk {
     let intervals = crate::desks::intervals();
     let edges = crate::desks::edges();
     crate::said::number(b"enter ", party as u64);
@@ -19,12 +19,12 @@ pub fn enter_named(d: Desk, party: usize, mode: Mode, names: &[u16], named: usiz
 }
 
 // The line of an enter of T; the next desk.
-pub fn enter(d: Desk, party: usize, mode: Mode, names: &[u16]) -> Desk {
+pub(crate) fn enter(d: Desk, party: usize, mode: Mode, names: &[u16]) -> Desk {
     enter_named(d, party, mode, names, names.len())
 }
 
 // The line of a get.
-pub fn get(d: Desk, party: usize, node: usize, values: &[u64]) {
+pub(crate) fn get(d: Desk, party: usize, node: usize, values: &[u64]) {
     let intervals = crate::desks::intervals();
     let edges = crate::desks::edges();
     crate::said::number(b"get ", party as u64);
@@ -38,7 +38,7 @@ pub fn get(d: Desk, party: usize, node: usize, values: &[u64]) {
 }
 
 // The line of a put.
-pub fn put(d: Desk, party: usize, node: usize, value: u64, values: &mut [u64]) {
+pub(crate) fn put(d: Desk, party: usize, node: usize, value: u64, values: &mut [u64]) {
     let intervals = crate::desks::intervals();
     let edges = crate::desks::edges();
     crate::said::number(b"put ", party as u64);
@@ -54,7 +54,7 @@ pub fn put(d: Desk, party: usize, node: usize, value: u64, values: &mut [u64]) {
 }
 
 // The line of a leave with the bytes lent; the next desk.
-pub fn leave_listed(d: Desk, party: usize, list: &mut [u8]) -> Desk {
+pub(crate) fn leave_listed(d: Desk, party: usize, list: &mut [u8]) -> Desk {
     let intervals = crate::desks::intervals();
     let edges = crate::desks::edges();
     crate::said::number(b"leave ", party as u64);
@@ -73,19 +73,19 @@ pub fn leave_listed(d: Desk, party: usize, list: &mut [u8]) -> Desk {
 }
 
 // The line of a leave of T with 34 bytes; the next desk.
-pub fn leave(d: Desk, party: usize) -> Desk {
+pub(crate) fn leave(d: Desk, party: usize) -> Desk {
     let mut list = [170u8; 34];
     leave_listed(d, party, &mut list)
 }
 
 // The line of a get on values that nobody stored to.
-pub fn get_fresh(d: Desk, party: usize, node: usize) {
+pub(crate) fn get_fresh(d: Desk, party: usize, node: usize) {
     let values = [100u64; 10];
     get(d, party, node, &values);
 }
 
 // The line of a put on such values.
-pub fn put_fresh(d: Desk, party: usize, node: usize, value: u64) {
+pub(crate) fn put_fresh(d: Desk, party: usize, node: usize, value: u64) {
     let mut values = [100u64; 10];
     put(d, party, node, value, &mut values);
 }
@@ -152,7 +152,7 @@ fn part_leave(d: Desk, n: usize, intervals: &[u16], edges: &[u16], count: usize)
 }
 
 // All four steps from one desk, and whether none changed the desk, the values or the bytes.
-pub fn all_four(
+pub(crate) fn all_four(
     what: &[u8],
     d: Desk,
     n: usize,

@@ -160,7 +160,7 @@ fn reading() {
 }
 
 // All these rows.
-pub fn run() {
+pub(crate) fn run() {
     crate::said::text(b"ROW 1, WHAT A STEP ALONE IS LENT\n");
     short_names();
     short_values();

@@ -9,18 +9,18 @@ use desk::PutAnswer;
 use desk::Stage;
 
 // Writes text to standard output.
-pub fn text(bytes: &[u8]) {
+pub(crate) fn text(bytes: &[u8]) {
     io::write_all(1, bytes);
 }
 
 // Says a word, then a number.
-pub fn number(word: &[u8], k: u64) {
+pub(crate) fn number(word: &[u8], k: u64) {
     text(word);
     io::print_decimal(1, k);
 }
 
 // Says a word, then `unchanged` or `changed`.
-pub fn kept(word: &[u8], same: bool) {
+pub(crate) fn kept(word: &[u8], same: bool) {
     text(word);
     if same {
         text(b" unchanged");
@@ -30,7 +30,7 @@ pub fn kept(word: &[u8], same: bool) {
 }
 
 // The stage of a party; a party over 31 is out.
-pub fn stage(d: Desk, party: usize) -> Stage {
+pub(crate) fn stage(d: Desk, party: usize) -> Stage {
     if party < 32 {
         let e = d.entries[party];
         return e.stage;
@@ -39,7 +39,7 @@ pub fn stage(d: Desk, party: usize) -> Stage {
 }
 
 // The number at a place of the arrival list; 0 past its places.
-pub fn listed(d: Desk, i: usize) -> u8 {
+pub(crate) fn listed(d: Desk, i: usize) -> u8 {
     if i < 32 {
         return d.queue[i];
     }
@@ -47,7 +47,7 @@ pub fn listed(d: Desk, i: usize) -> u8 {
 }
 
 // Whether a mode is reading.
-pub fn is_reading(m: Mode) -> bool {
+pub(crate) fn is_reading(m: Mode) -> bool {
     match m {
         Mode::Reading => true,
         Mode::Writing => false,
@@ -117,7 +117,7 @@ fn same_at(a: Desk, b: Desk, i: usize) -> bool {
 }
 
 // Whether two desks are the same, all their places included.
-pub fn same_desk(a: Desk, b: Desk) -> bool {
+pub(crate) fn same_desk(a: Desk, b: Desk) -> bool {
     if a.waiting != b.waiting {
         return false;
     }
@@ -135,7 +135,7 @@ pub fn same_desk(a: Desk, b: Desk) -> bool {
 }
 
 // Whether each value is 100.
-pub fn values_kept(values: &[u64]) -> bool {
+pub(crate) fn values_kept(values: &[u64]) -> bool {
     let mut i = 0;
     while i < values.len() {
         if values[i] != 100 {
@@ -147,7 +147,7 @@ pub fn values_kept(values: &[u64]) -> bool {
 }
 
 // Whether each byte from `from` on is 170.
-pub fn bytes_kept(from: usize, bytes: &[u8]) -> bool {
+pub(crate) fn bytes_kept(from: usize, bytes: &[u8]) -> bool {
     let mut i = from;
     while i < bytes.len() {
         if bytes[i] != 170 {
@@ -209,7 +209,7 @@ fn waiters(d: Desk) {
 }
 
 // Says the desk.
-pub fn state(d: Desk) {
+pub(crate) fn state(d: Desk) {
     text(b", holding");
     holders(d);
     text(b", waiting");
@@ -218,7 +218,7 @@ pub fn state(d: Desk) {
 }
 
 // Says that the desk is unchanged, or else the desk after the step; the line ends.
-pub fn after(before: Desk, d: Desk) {
+pub(crate) fn after(before: Desk, d: Desk) {
     if same_desk(before, d) {
         text(b", desk unchanged\n");
         return;
@@ -228,7 +228,7 @@ pub fn after(before: Desk, d: Desk) {
 }
 
 // Says what enter answered.
-pub fn entered(answer: EnterAnswer) {
+pub(crate) fn entered(answer: EnterAnswer) {
     match answer {
         EnterAnswer::Granted(cover) => number(b" granted ", cover as u64),
         EnterAnswer::Waits => text(b" waits"),
@@ -237,7 +237,7 @@ pub fn entered(answer: EnterAnswer) {
 }
 
 // Says what get answered: a party that waits is refused with 14.
-pub fn got(answer: GetAnswer) {
+pub(crate) fn got(answer: GetAnswer) {
     match answer {
         GetAnswer::Value(value) => number(b" value ", value),
         GetAnswer::Waiting => text(b" refused 14"),
@@ -246,7 +246,7 @@ pub fn got(answer: GetAnswer) {
 }
 
 // Says what put answered.
-pub fn stored(answer: PutAnswer) {
+pub(crate) fn stored(answer: PutAnswer) {
     match answer {
         PutAnswer::Stored => text(b" stored"),
         PutAnswer::Refused(k) => number(b" refused ", k as u64),
@@ -263,7 +263,7 @@ fn parties(count: usize, list: &[u8]) {
 }
 
 // Says what leave answered, with the listed parties; the count of listed bytes.
-pub fn left(answer: LeaveAnswer, list: &[u8]) -> usize {
+pub(crate) fn left(answer: LeaveAnswer, list: &[u8]) -> usize {
     match answer {
         LeaveAnswer::Left(count) => {
             text(b" left");
@@ -278,7 +278,7 @@ pub fn left(answer: LeaveAnswer, list: &[u8]) -> usize {
 }
 
 // Says that each value is 100, or else which are not.
-pub fn values(values: &[u64]) {
+pub(crate) fn values(values: &[u64]) {
     if values_kept(values) {
         text(b", values unchanged");
         return;
@@ -313,7 +313,7 @@ fn lent_names(names: &[u16]) {
 }
 
 // Says the names lent, and the name count where it is another than their number.
-pub fn names(names: &[u16], named: usize) {
+pub(crate) fn names(names: &[u16], named: usize) {
     text(b" {");
     lent_names(names);
     text(b"}");
@@ -328,7 +328,7 @@ fn name(k: u16) {
 }
 
 // Says a mode.
-pub fn mode(m: Mode) {
+pub(crate) fn mode(m: Mode) {
     if is_reading(m) {
         text(b" reading");
     } else {

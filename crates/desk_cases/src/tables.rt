@@ -213,7 +213,7 @@ fn node_4(what: &[u8], low: u16, high: u16, past: u16) {
 }
 
 // All these rows.
-pub fn run() {
+pub(crate) fn run() {
     crate::said::text(b"ROWS 1, 5, 6, 7 AND 10, TABLES\n");
     sizes();
     many_nodes();

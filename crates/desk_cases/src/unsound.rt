@@ -156,7 +156,7 @@ fn lowest() {
 }
 
 // All these desks.
-pub fn run() {
+pub(crate) fn run() {
     crate::said::text(b"ROW 10, DESKS\n");
     lists();
     counts();

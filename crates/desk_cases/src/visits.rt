@@ -114,7 +114,7 @@ fn grants() {
 }
 
 // All visits.
-pub fn run() {
+pub(crate) fn run() {
     crate::said::text(b"A SHORT VISIT\n");
     short_visit();
     crate::said::text(b"ARRIVAL ORDER\n");
