@@ -51,7 +51,7 @@ unfoldable pub spreads : ℕ → List ℕ → List ℕ → List ℕ
 spreads zero es flags = flags
 spreads (suc k) es flags = spreads k es (spread es flags)
 
--- the reach of a node: the node, and what n passes flag from there (proofs/Spread: just the nodes x with Reach es node x)
+-- the reach of a node: the node, and what n passes flag from there (`reach-agrees` in interval_laws: just the nodes x with Reach es node x)
 unfoldable pub reach : ℕ → List ℕ → ℕ → List ℕ
 reach n es node = spreads n es (set (replicate n 0) node 1)
 

@@ -192,17 +192,20 @@ too-long file h = ap (λ (o : Option ℕ). fileUnless o file) (refused-here (2 w
 
 -- LISTING into lent places
 module _ (file values text : List ℕ) where
-  pub list-short : ltb (length values) 256 ≡ true → Lists (ListingRefused 1) values text (listFile file values text)
+  list-refused : listingRefusal values text ≡ some 1 → Lists (ListingRefused 1) values text (listFile file values text)
   unfolding listFile
-  list-short e =
-      let o : listingRefusal values text ≡ some 1 = refused-here (1 when (ltb (length values) 256 || ltb (length text) 635040)) [] (rw e refl) in
-      record { answer = ap (λ (x : Option ℕ). answerOf x (length (listing (runFile file)))) (sym o); values-after = ap (λ (x : Option ℕ). roomAfter x (valuesOf (runFile file)) values) (sym o); text-after = ap (λ (x : Option ℕ). roomAfter x (listing (runFile file)) text) (sym o) }
+  list-refused o =
+      record {
+        answer = ap (λ (x : Option ℕ). answerOf x (length (listing (runFile file)))) (sym o);
+        values-after = ap (λ (x : Option ℕ). roomAfter x (valuesOf (runFile file)) values) (sym o);
+        text-after = ap (λ (x : Option ℕ). roomAfter x (listing (runFile file)) text) (sym o);
+      }
+
+  pub list-short : ltb (length values) 256 ≡ true → Lists (ListingRefused 1) values text (listFile file values text)
+  list-short e = list-refused (refused-here (1 when (ltb (length values) 256 || ltb (length text) 635040)) [] (rw e refl))
 
   pub list-narrow : ltb (length values) 256 ≡ false → ltb (length text) 635040 ≡ true → Lists (ListingRefused 1) values text (listFile file values text)
-  unfolding listFile
-  list-narrow d e =
-      let o : listingRefusal values text ≡ some 1 = refused-here (1 when (ltb (length values) 256 || ltb (length text) 635040)) [] (rw (d, e) refl) in
-      record { answer = ap (λ (x : Option ℕ). answerOf x (length (listing (runFile file)))) (sym o); values-after = ap (λ (x : Option ℕ). roomAfter x (valuesOf (runFile file)) values) (sym o); text-after = ap (λ (x : Option ℕ). roomAfter x (listing (runFile file)) text) (sym o) }
+  list-narrow d e = list-refused (refused-here (1 when (ltb (length values) 256 || ltb (length text) 635040)) [] (rw (d, e) refl))
 
   pub list-done : {values′ text′ : List ℕ} {r : ℕ} → ltb (length values) 256 ≡ false → ltb (length text) 635040 ≡ false → Listing (runFile file) values text values′ text′ r
       → Lists (Listed r) values′ text′ (listFile file values text)

@@ -14,10 +14,11 @@ decimalOf (suc most) n = cond (ltb n 10) ((48 + n) ∷ []) (decimalOf most (n / 
 abbrev pub decimal : ℕ → List ℕ
 decimal n = decimalOf (suc n) n
 
--- a space, and the end of a line
+-- a space
 abbrev pub space : List ℕ
 space = 32 ∷ []
 
+-- the end of a line
 abbrev pub newline : List ℕ
 newline = 10 ∷ []
 
