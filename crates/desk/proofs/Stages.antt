@@ -1,19 +1,21 @@
 -- Laws of entries and of holds that functions' proofs use. Assumes nothing.
-use mathlib.Core.Path.{_≡_, sym, ap, _∙_}
+use mathlib.Core.Path.{_≡_, refl, sym, ap, _∙_}
 use mathlib.Core.List.{List}
-use mathlib.Core.Bool.{Bool, true, _&&_}
+use mathlib.Core.Bool.{Bool, true, not, _&&_}
 use Prim.Native.Nat.{ℕ, _≤_}
 use native.Mathlib.Omega.{arith}
 use lib.Dec.{leb}
 use lib.ListN.{length, List·getD-eq-default}
 use borrow.Author.Tests.{leb-true}
 use Rattle.intervals.specs.Lists.{one}
-use Rattle.intervals.proofs.Bools.{and-left, and-right}
-use Rattle.desk.specs.declared.Stage.the-variants.{Out}
+use Rattle.intervals.proofs.Bools.{and-left, and-right, not-both}
+use Rattle.desk.specs.declared.Stage.{Stage}
+use Rattle.desk.specs.declared.Stage.the-variants.{Out, Waiting, Holding}
 use Rattle.desk.specs.declared.Lock.{Lock}
 use Rattle.desk.specs.declared.Entry.{Entry}
 use Rattle.desk.specs.Locks.{conflict, realInterval, isMode, isHold, lockNumbered, conflictCall}
-use Rattle.desk.specs.Desks.{entryOf, stageIn}
+use Rattle.desk.specs.Desks.{entryOf, stageIn, isOut, isWaiting}
+use Rattle.desk.specs.Sound.{holdersConflict}
 
 -- past the entries everybody is out
 pub past-out : (entries : List Entry) (party : ℕ) → length entries ≤ party → Out ≡ stageIn entries party
@@ -32,3 +34,14 @@ pub call-answer : (m low high m′ low′ high′ : ℕ) (a b : Lock) (x : Bool)
     → a ≡ lockNumbered m low high → b ≡ lockNumbered m′ low′ high′ → conflict a b ≡ x → one x ≡ conflictCall m low high m′ low′ high′
 call-answer m low high m′ low′ high′ a b x p q ea eb e =
     sym (rw (p, q) (ap one (sym (ap (λ (t : Lock). conflict t b) ea ∙ ap (conflict (lockNumbered m low high)) eb) ∙ e)))
+
+-- a party that is out, or waiting, holds in conflict with nobody
+pub out-apart : (s t : Stage) → isOut s ≡ true → not (holdersConflict s t) ≡ true
+out-apart Out t e = refl
+out-apart (Waiting l) t e = refl
+out-apart (Holding l) t e = not-both true refl cc
+
+pub waiting-apart : (s t : Stage) → isWaiting s ≡ true → not (holdersConflict s t) ≡ true
+waiting-apart Out t e = refl
+waiting-apart (Waiting l) t e = refl
+waiting-apart (Holding l) t e = not-both true refl cc

@@ -519,13 +519,27 @@ impl Desk {
         true
     }
 
+    // The same: a party that does not hold needs no look at those before it.
+    fn holds_apart(self, party: usize) -> bool
+        ensures { λ r. ⌜ r ≡ allBelow party (λ other. not (holdersConflict (stageAt self party) (stageAt self other))) ⌝ }
+    {
+        let s = self.stage(party);
+        if is_out(s) {
+            return true;
+        }
+        if is_waiting(s) {
+            return true;
+        }
+        self.apart_from_earlier(party)
+    }
+
     // Whether no two holders conflict.
     fn holders_apart(self) -> bool
         ensures { λ r. ⌜ r ≡ holdersApart self ⌝ }
     {
         let mut i = 0;
         while i < 32 {
-            if !self.apart_from_earlier(i) {
+            if !self.holds_apart(i) {
                 return false;
             }
             i += 1;

@@ -27,11 +27,11 @@ loop-holds c = (search needs, refl)
 
 returns : tie.Need-returns Inv-loop μ-loop
 returns c = let a = c .before .before .before in let s = a .before in
-    sym (all-stop (test (s .args .self)) 32 (a .loop .i) (c .before .before .loop-test .taken) (sym (c .before .apart-from-earlier .ensures) ∙ not-true _ (c .if1 .taken)))
+    sym (all-stop (test (s .args .self)) 32 (a .loop .i) (c .before .before .loop-test .taken) (sym (c .before .holds-apart .ensures) ∙ not-true _ (c .if1 .taken)))
 
 loop-again : tie.Need-loop-again Inv-loop μ-loop
 loop-again c = let a = c .before .before .before in let s = a .before in
-    (search needs, all-next (test (s .args .self)) (a .loop .i) (a .loop .inv .1) (sym (c .before .apart-from-earlier .ensures) ∙ not-false _ (c .if1 .left)))
+    (search needs, all-next (test (s .args .self)) (a .loop .i) (a .loop .inv .1) (sym (c .before .holds-apart .ensures) ∙ not-false _ (c .if1 .left)))
 
 returns-2 : tie.Need-returns-2 Inv-loop μ-loop
 returns-2 c = let a = c .before in let s = a .before in
