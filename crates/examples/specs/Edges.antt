@@ -14,7 +14,7 @@ use Rattle.desk.specs.Locks.{conflictCall}
 use Rattle.desk.specs.Desks.{Hierarchy, lent, freshDesk}
 use Rattle.desk.specs.Sound.{soundDesk}
 use Rattle.desk.specs.Steps.{intervalWrong, countGrants, enterRefusal}
-use Rattle.replay.specs.Replay.{StepAnswer, granted, waits, value, stored, left, refused}
+use Rattle.replay.specs.Replay.{granted, waits, value, stored, left, refused}
 use Rattle.examples.specs.Cases.{Case, listing}
 use Rattle.examples.specs.Table.{edge, enter1, get, put, leave, size}
 

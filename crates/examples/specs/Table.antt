@@ -2,7 +2,7 @@
 use mathlib.Core.List.{List, [], _∷_, _++_}
 use Prim.Native.Nat.{ℕ}
 use lib.ListN.{take, replicate}
-use Rattle.replay.specs.Replay.{StepAnswer, granted, waits, value, stored, left, refused}
+use Rattle.replay.specs.Replay.{granted, waits, value, stored, left, refused}
 use Rattle.examples.specs.Cases.{Case, intervals, cover, apart, listing}
 
 -- table T: n = 10

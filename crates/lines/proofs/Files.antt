@@ -3,7 +3,7 @@ use mathlib.Core.Path.{_≡_, refl, sym, ap, _∙_}
 use mathlib.Core.Bool.{Bool, true, false, not, _&&_, _||_}
 use mathlib.Core.List.{List, [], _∷_, _++_}
 use mathlib.Core.Option.{Option, none, some}
-use Prim.Native.Nat.{ℕ, _+_, _*_, _/_, _≤_, _<_}
+use Prim.Native.Nat.{ℕ, _*_, _/_, _≤_, _<_}
 use native.Mathlib.Nat.{zero-add}
 use native.Mathlib.Omega.{arith}
 use lib.Dec.{eqb, leb, ltb}
@@ -12,7 +12,7 @@ use lib.Seq.{take-all, take-at}
 use borrow.Author.Tests.{lt-leb, le-ltb}
 use Rattle.intervals.specs.Lists.{count, over}
 use Rattle.intervals.specs.Answer.{Answer, done, refused, _when_, refusal, answerOf}
-use Rattle.intervals.specs.Hierarchy.{edgesOf, sizeWrong, hierarchyChecks}
+use Rattle.intervals.specs.Hierarchy.{sizeWrong, hierarchyChecks}
 use Rattle.intervals.specs.Intervals.{intervalTable}
 use Rattle.intervals.specs.declared.BuildAnswer.{BuildAnswer}
 use Rattle.intervals.specs.declared.BuildAnswer.the-variants.{Built, Refused}
@@ -20,7 +20,6 @@ use Rattle.intervals.specs.Build.{buildShort, buildRefusal, buildStep, buildMea
 use Rattle.intervals.proofs.Bools.{bool}
 use Rattle.intervals.proofs.Refusals.{refused-here, refused-later}
 use Rattle.interval_laws.proofs.Laws.{taken}
-use Rattle.blocks.specs.Inner.{overAt}
 use Rattle.blocks.specs.declared.ReadAnswer.{ReadAnswer}
 use Rattle.blocks.specs.declared.ReadAnswer.the-variants.{Records, Refused as ReadRefused}
 use Rattle.blocks.specs.Record.{kindOf}

@@ -1,12 +1,12 @@
 -- Steps performed one after the other, and their lines. Assumes nothing.
 use mathlib.Core.Path.{_≡_, refl, sym, ap, subst, _∙_}
 use mathlib.Core.Bool.{Bool, true, false}
-use mathlib.Core.List.{List, [], _∷_, _++_}
-use Prim.Native.Nat.{ℕ, zero, suc, _+_, _-_, _≤_, _<_}
+use mathlib.Core.List.{List, [], _++_}
+use Prim.Native.Nat.{ℕ, suc, _+_, _≤_, _<_}
 use native.Mathlib.Numerals.{add-one}
 use native.Mathlib.Omega.{arith}
 use lib.Dec.{leb}
-use lib.ListN.{length, getD, drop, replicate, length-append, length-drop, drop-of-length-le}
+use lib.ListN.{length, getD, drop, replicate, length-append, drop-of-length-le}
 use borrow.Author.Tests.{le-leb, lt-leb}
 use Rattle.intervals.specs.Lists.{over, keptIf, keep}
 use Rattle.intervals.proofs.Loops.{drop-step}
@@ -16,7 +16,6 @@ use Rattle.blocks.specs.Inner.{overAt}
 use Rattle.desk.specs.declared.Desk.{Desk}
 use Rattle.desk.specs.Desks.{Hierarchy}
 use Rattle.replay.specs.declared.Step.{Step}
-use Rattle.replay.specs.declared.Outcome.{Outcome}
 use Rattle.replay.specs.Replay.{StepAnswer, granted, waits, value, stored, left, refused, State, Performed, Ran, also, stateOf, stepRecords, perform, performAll, holdersAt}
 use Rattle.replay.specs.Answers.{stepMeaning, outcomeOf, partiesOf, Performs}
 use Rattle.lines.specs.declared.Progress.{Progress}

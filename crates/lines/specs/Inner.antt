@@ -1,20 +1,17 @@
 -- Terms of the contracts of private functions only: no definition of the paper is here. Assumes nothing.
 use mathlib.Core.Path.{_≡_}
 use mathlib.Core.Bool.{Bool, true, false}
-use mathlib.Core.List.{List, [], _∷_, _++_}
+use mathlib.Core.List.{List}
 use Prim.Native.Nat.{ℕ, suc, _+_, _≤_}
-use lib.Dec.{leb}
 use lib.ListN.{length}
 use Rattle.intervals.specs.Lists.{over}
 use Rattle.intervals.specs.Answer.{Answer, done}
 use Rattle.blocks.specs.Inner.{overAt}
-use Rattle.blocks.specs.Record.{kindOf}
 use Rattle.desk.specs.Desks.{Hierarchy}
 use Rattle.replay.specs.declared.Outcome.{Outcome}
 use Rattle.replay.specs.declared.Outcome.the-variants.{Granted, Waits, Value, Stored, Left, Refused}
-use Rattle.replay.specs.Replay.{StepAnswer, State, Performed, FileRun, Ran, perform, stateOf, fileRun}
+use Rattle.replay.specs.Replay.{FileRun, Ran, perform, stateOf, fileRun}
 use Rattle.lines.specs.declared.Progress.{Progress}
-use Rattle.lines.specs.Text.{space, newline, answerText}
 use Rattle.lines.specs.Listing.{stepLine, stepLines, listing, valuesOf}
 
 -- bytes put into the text from a place on: the place behind them, and the text

@@ -1,12 +1,11 @@
 -- The listing of a file: the lines of its steps, the last line, and what listing into lent places leaves. Assumes nothing.
 use mathlib.Core.Path.{_≡_}
-use mathlib.Core.Bool.{Bool, _||_}
+use mathlib.Core.Bool.{_||_}
 use mathlib.Core.List.{List, [], _∷_, _++_}
-use mathlib.Core.Option.{Option, none, some}
+use mathlib.Core.Option.{Option, none}
 use Prim.Native.Nat.{ℕ, suc}
 use lib.Dec.{ltb}
 use lib.ListN.{length}
-use Rattle.intervals.specs.Lists.{over}
 use Rattle.intervals.specs.Answer.{Answer, done, refused as denied, _when_, refusal, answerOf}
 use Rattle.blocks.specs.File.{roomAfter}
 use Rattle.replay.specs.Replay.{StepAnswer, FileRun, runFile}

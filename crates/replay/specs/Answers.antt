@@ -6,14 +6,14 @@ use Prim.Native.Nat.{ℕ, _*_}
 use lib.Dec.{ltb}
 use lib.ListN.{length, take, replicate}
 use Rattle.intervals.specs.Lists.{over}
-use Rattle.intervals.specs.Answer.{Answer, done, refused as denied, Check, _when_, refusal, answerOf}
+use Rattle.intervals.specs.Answer.{Answer, done, refused as denied, _when_, refusal, answerOf}
 use Rattle.blocks.specs.File.{roomAfter}
 use Rattle.replay.specs.declared.EdgesAnswer.{EdgesAnswer}
 use Rattle.replay.specs.declared.EdgesAnswer.the-variants.{Edges, Refused as EdgesRefused}
 use Rattle.replay.specs.declared.Outcome.{Outcome}
 use Rattle.replay.specs.declared.Outcome.the-variants.{Granted, Waits, Value, Stored, Left, Refused}
 use Rattle.replay.specs.declared.Step.{Step}
-use Rattle.replay.specs.Replay.{StepAnswer, granted, waits, value, stored, left, refused, State, Performed, edgeTable, edgeCountOf}
+use Rattle.replay.specs.Replay.{StepAnswer, granted, waits, value, stored, left, refused, Performed, edgeTable, edgeCountOf}
 
 -- THE EDGE TABLE into lent places. It needs two for each edge
 abbrev pub edgesRefusal : List (List ℕ) → List ℕ → Option ℕ

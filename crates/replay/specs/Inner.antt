@@ -2,7 +2,7 @@
 use mathlib.Core.List.{List, []}
 use Prim.Native.Nat.{ℕ, _*_}
 use lib.Dec.{eqb}
-use lib.ListN.{length, take, drop}
+use lib.ListN.{take, drop}
 use Rattle.intervals.specs.Answer.{Answer, done, refused as denied}
 use Rattle.blocks.specs.Record.{kindOf, parentIn, childIn}
 use Rattle.replay.specs.declared.Outcome.{Outcome}

@@ -1,5 +1,5 @@
 -- Running a file: its records as a hierarchy and steps, what each step answers, and the end. Assumes nothing.
-use mathlib.Core.List.{List, [], _∷_, _++_}
+use mathlib.Core.List.{List, [], _∷_}
 use mathlib.Core.Bool.{Bool, true, false, cond}
 use mathlib.Core.Option.{Option, none, some}
 use Prim.Native.Nat.{ℕ, zero, suc, _/_}
@@ -11,10 +11,8 @@ use Rattle.intervals.specs.Hierarchy.{hierarchyChecks}
 use Rattle.intervals.specs.Intervals.{intervalTable}
 use Rattle.blocks.specs.Record.{kindOf, sizeIn, parentIn, childIn, partyIn, modeIn, nameCountIn, namesIn, nodeIn, valueIn}
 use Rattle.blocks.specs.File.{fileChecks, fileRecords}
-use Rattle.desk.specs.declared.Mode.{Mode}
 use Rattle.desk.specs.declared.Stage.{Stage}
 use Rattle.desk.specs.declared.Stage.the-variants.{Out, Waiting, Holding}
-use Rattle.desk.specs.declared.Entry.{Entry}
 use Rattle.desk.specs.declared.Desk.{Desk}
 use Rattle.desk.specs.Locks.{modeNumbered}
 use Rattle.desk.specs.Desks.{Hierarchy, lent, freshDesk}

@@ -5,7 +5,7 @@ use Prim.Native.Nat.{ℕ, _+_, _-_, _≤_}
 use native.Mathlib.Omega.{arith}
 use lib.ListN.{length, drop, getD}
 use borrow.Author.Needs.{needs}
-use Rattle.intervals.specs.Lists.{count, one}
+use Rattle.intervals.specs.Lists.{count}
 use Rattle.intervals.proofs.Loops.{field-length, count-end}
 use Rattle.desk.specs.declared.Entry.{Entry}
 use Rattle.desk.specs.declared.Stage.the-variants.{Out}

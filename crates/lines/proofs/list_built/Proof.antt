@@ -1,12 +1,8 @@
 -- `list_built` meets its contract: from zeros, the steps, and the last line. Assumes nothing.
-use mathlib.Core.Path.{ap}
-use mathlib.Core.List.{List}
-use Prim.Native.Nat.{ℕ}
 use lib.ListN.{length}
 use borrow.Author.Needs.{needs}
 use Rattle.desk.specs.Desks.{Hierarchy, lent}
-use Rattle.desk.specs.Desks.{freshDesk}
-use Rattle.replay.specs.Replay.{Ran, recordList, stepRecords, startOf, stateOf, performAll}
+use Rattle.replay.specs.Replay.{recordList, stepRecords, startOf, performAll}
 use Rattle.lines.proofs.list_built.Statement.{statement}
 use Rattle.lines.proofs.list_built.Tie as tie
 use Rattle.lines.proofs.Runs.{run-listed}

@@ -1,15 +1,14 @@
 -- `list_hierarchy` meets its contract: the hierarchy is refused as building refuses it, or it is built and its steps are run. Assumes nothing.
-use mathlib.Core.Path.{_≡_, refl, sym, ap, _∙_}
+use mathlib.Core.Path.{_≡_, sym}
 use mathlib.Core.List.{List}
-use Prim.Native.Nat.{ℕ, _*_, _≤_, _<_}
+use Prim.Native.Nat.{ℕ, _*_, _≤_}
 use native.Mathlib.Omega.{arith}
 use lib.ListN.{length, take}
 use lib.Seq.{length-take-le}
 use borrow.Author.Needs.{needs}
-use Rattle.intervals.specs.Build.{buildMeaning, buildStep}
 use Rattle.intervals.specs.declared.BuildAnswer.the-variants.{Built}
 use Rattle.desk.specs.Desks.{lent}
-use Rattle.replay.specs.Replay.{recordList, sizeOf, stepRecords, builtOf, startOf, performAll}
+use Rattle.replay.specs.Replay.{recordList, stepRecords, builtOf, startOf, performAll}
 use Rattle.lines.proofs.list_hierarchy.Statement.{statement}
 use Rattle.lines.proofs.list_hierarchy.Tie as tie
 use Rattle.lines.proofs.Files.{refused-listed, run-shown, too-large, hierarchy-refused, hierarchy-built, hierarchy-lent, over-built}

@@ -1,6 +1,4 @@
 -- `listing` meets its contract: refused with 1 where a place is short, and the listing of the file otherwise. Assumes nothing.
-use Prim.Native.Nat.{ℕ}
-use lib.ListN.{length}
 use borrow.Author.Needs.{needs}
 use borrow.Author.Tests.{lt-ltb, le-ltb}
 use Rattle.lines.proofs.listing.Statement.{statement}

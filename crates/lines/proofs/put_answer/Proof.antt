@@ -2,7 +2,7 @@
 use mathlib.Core.Path.{_≡_}
 use native.Mathlib.Omega.{arith}
 use borrow.Author.Needs.{needs}
-use Rattle.replay.specs.declared.Outcome.the-variants.{Granted, Waits, Value, Stored, Left, Refused}
+use Rattle.replay.specs.declared.Outcome.the-variants.{Waits, Stored}
 use Rattle.lines.proofs.put_answer.Statement.{statement}
 use Rattle.lines.proofs.put_answer.Tie as tie
 use Rattle.lines.specs.Text.{waitsWord, storedWord}

@@ -1,5 +1,4 @@
 -- `put_party` meets its contract: a byte has at most three digits. Assumes nothing.
-use mathlib.Core.Path.{_≡_}
 use Prim.Native.Nat.{_<_}
 use lib.ListN.{getD}
 use borrow.Author.Needs.{needs}

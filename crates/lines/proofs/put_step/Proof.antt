@@ -1,6 +1,5 @@
 -- `put_step` meets its contract: the step of the definition, and its line. Assumes nothing.
 use mathlib.Core.Path.{_≡_}
-use native.Mathlib.Omega.{arith}
 use lib.ListN.{length}
 use borrow.Author.Needs.{needs}
 use Rattle.intervals.proofs.Loops.{field-length}
