@@ -1,4 +1,4 @@
-/* Times the project and the C twin side by side; bench/run calls it:  measure LISTING TWIN (FILE WHAT) ..
+/* Times the project and the two C twins side by side; bench/run calls it:  measure LISTING JUDGING PLAIN (FILE WHAT) ..
    The first file has no byte: what a program takes for it is what starting it takes.
    All times are processor time, so that others who use the machine count less. */
 #define _DEFAULT_SOURCE
@@ -96,36 +96,46 @@ static double process_time(const char *program, const char *file)
     return seconds(used.ru_utime) + seconds(used.ru_stime);
 }
 
-static void listings(const char *listing, const char *twin, int count, char **files)
-{
-    double start_project = 0, start_twin = 0;
+enum { PROJECT, JUDGING, PLAIN, PROGRAMS };
 
-    printf("\nthe listing, milliseconds for a whole process, best of %d;\n", PROCESS_ROUNDS);
-    printf("the last ratio is without what the same program takes for no byte at all, which is its start\n");
-    printf("%36s %10s %10s   %s\n", "file", "project", "twin", "project / twin, without start");
+/* A ratio of the project's time to a twin's, and where the programs' starts are known that of the times without them. */
+static void ratio(const double *best, const double *start, int twin)
+{
+    printf("  %6.2f", best[PROJECT] / best[twin]);
+    if (start[PROJECT] > 0)
+        printf(", %5.2f", (best[PROJECT] - start[PROJECT]) / (best[twin] - start[twin]));
+    else
+        printf("       ");
+}
+
+static void listings(char **programs, int count, char **files)
+{
+    double start[PROGRAMS] = {0};
+
+    printf("\nthe listing, milliseconds for a whole process, best of %d, and the project's time over that of each twin;\n", PROCESS_ROUNDS);
+    printf("the second ratio is without what each program takes for no byte at all, which is its start\n");
+    printf("%36s %8s %8s %8s  %s  %s\n", "file", "project", "judging", "plain", "  over judging", "    over plain");
     for (int k = 0; k < count; k++) {
-        double best_project = 1e9, best_twin = 1e9;
-        for (int i = 0; i < PROCESS_ROUNDS; i++) {
-            double p = process_time(listing, files[2 * k]), t = process_time(twin, files[2 * k]);
-            best_project = p < best_project ? p : best_project;
-            best_twin = t < best_twin ? t : best_twin;
-        }
-        printf("%36s %10.2f %10.2f   %.2f", files[2 * k + 1], 1e3 * best_project, 1e3 * best_twin, best_project / best_twin);
-        if (k == 0) {
-            start_project = best_project;
-            start_twin = best_twin;
-        } else {
-            printf(", %.1f", (best_project - start_project) / (best_twin - start_twin));
-        }
+        double best[PROGRAMS] = {1e9, 1e9, 1e9};
+        for (int i = 0; i < PROCESS_ROUNDS; i++)
+            for (int p = 0; p < PROGRAMS; p++) {
+                double t = process_time(programs[p], files[2 * k]);
+                best[p] = t < best[p] ? t : best[p];
+            }
+        printf("%36s %8.2f %8.2f %8.2f", files[2 * k + 1], 1e3 * best[PROJECT], 1e3 * best[JUDGING], 1e3 * best[PLAIN]);
+        ratio(best, start, JUDGING);
+        ratio(best, start, PLAIN);
         printf("\n");
+        for (int p = 0; k == 0 && p < PROGRAMS; p++)
+            start[p] = best[p];
     }
 }
 
 int main(int count, char **words)
 {
-    if (count < 5 || count % 2 == 0)
+    if (count < 6 || count % 2)
         return 2;
     checks();
-    listings(words[1], words[2], (count - 3) / 2, words + 3);
+    listings(words + 1, (count - 4) / 2, words + 4);
     return 0;
 }

@@ -1,30 +1,33 @@
 -- How a step's refusal is picked: the checks of every step, and then its own. Assumes nothing.
 use mathlib.Core.Path.{_≡_, refl, sym, ap, _∙_}
 use mathlib.Core.List.{List, [], _∷_}
-use mathlib.Core.Bool.{Bool, true, false, not, _&&_, _||_, or-true, or-false}
-use mathlib.Core.Option.{Option, none, some}
-use Prim.Native.Nat.{ℕ, zero, suc, _+_, _*_, _/_, _≤_, _<_}
+use mathlib.Core.Bool.{Bool, true, false, not, _&&_, _||_, and-false}
+use mathlib.Core.Option.{none, some}
+use Prim.Native.Nat.{ℕ, _+_, _*_, _/_, _≤_, _<_}
+use native.Mathlib.Numerals.{add-one}
 use native.Mathlib.Omega.{arith}
 use lib.Dec.{eqb, leb, ltb}
-use lib.ListN.{length}
-use borrow.Author.Tests.{ne-eqb, lt-ltb, le-ltb, ltb-true, ltb-false, leb-true, leb-false, not-false}
-use Rattle.intervals.specs.Lists.{anyBelow}
+use lib.ListN.{take}
+use borrow.Author.Tests.{eqb-true, ne-eqb, lt-ltb, le-ltb, ltb-true, ltb-false, leb-true, leb-false, not-false}
+use Rattle.intervals.specs.Lists.{allBelow, anyBelow}
 use Rattle.intervals.specs.Answer.{Check, _when_, refusal}
 use Rattle.intervals.specs.Hierarchy.{edgesOf, someEdge, sizeWrong, edgesTooMany, edgeWrong}
 use Rattle.intervals.specs.Cover.{intervalAt}
 use Rattle.intervals.specs.declared.Interval.{Interval}
-use Rattle.intervals.proofs.Bools.{bool, and-left, or-left, or-right}
+use Rattle.intervals.proofs.Bools.{bool, not-both, and-left, and-right, and-both, or-left, or-right}
+use Rattle.intervals.proofs.Bounded.{all-at, all-of, any-none}
 use Rattle.intervals.proofs.Refusals.{refused-here, refused-later, NoneHolds, refusal-none}
 use Rattle.desk.specs.declared.Mode.{Mode}
 use Rattle.desk.specs.declared.Lock.{Lock}
 use Rattle.desk.specs.declared.Stage.{Stage}
 use Rattle.desk.specs.declared.Stage.the-variants.{Out, Waiting, Holding}
+use Rattle.desk.specs.declared.Entry.{Entry}
 use Rattle.desk.specs.declared.Desk.{Desk}
 use Rattle.desk.specs.Locks.{realInterval}
-use Rattle.desk.specs.Desks.{Hierarchy, lent, stageAt, isOut, isWaiting}
-use Rattle.desk.specs.Sound.{listsParties, listsOnce, listsWaiting, intervalsReal, coverRight, coversRight, holdersApart, waitersHeldUp, soundDesk}
+use Rattle.desk.specs.Desks.{Hierarchy, lent, lowIn, highIn, stageAt, listedAt, isOut, isWaiting}
+use Rattle.desk.specs.Sound.{listsParties, listsOnce, isListed, listsWaiting, ofLock, lockReal, intervalsReal, coverRight, coversRight, holdersApart, heldUp, waitersHeldUp, soundDesk}
 use Rattle.desk.specs.Steps.{tablesShort, intervalWrong, stepChecks, lockOn, insideHold}
-use Rattle.desk.specs.Inner.{refusalAfter, spanned, Judged, nodeChecks, NodeJudged}
+use Rattle.desk.specs.Inner.{outside, entriesRight, refusalAfter, spanned, Judged, nodeChecks, NodeJudged}
 
 -- half of a length is below a number just where the length is below twice the number
 pub half-ltb : (a b : ℕ) → ltb (a / 2) b ≡ ltb a (2 * b)
@@ -79,13 +82,6 @@ module _ (H : Hierarchy) (d : Desk) (party : ℕ) (short : Bool) where
   pub judged-some : (k : ℕ) → (k ≡ 0 → ⊥) → Judged H d party short k → (own : List Check) → refusal (stepChecks H d party short own) ≡ some k
   judged-some k e j own = j own ∙ rw (ne-eqb k 0 e) refl
 
--- an interval that is not real or not inside the root's, by what was read of the two
-abbrev pub outside : Interval → Interval → Bool
-outside i root = not (realInterval (i .low) (i .high)) || ltb (i .low) (root .low) || ltb (root .high) (i .high)
-
-pub wrong-by : (table : List ℕ) (node : ℕ) (i root : Interval) → i ≡ intervalAt table node → root ≡ intervalAt table 0 → intervalWrong (spanned 0 table) node ≡ outside i root
-wrong-by table node i root p q = ap (λ (x : Interval). outside x (intervalAt table 0)) (sym p) ∙ ap (outside i) (sym q)
-
 -- a right cover, by what was read of it
 abbrev pub rightBy : Lock → ℕ → Interval → Bool
 rightBy l n i = ltb (l .cover) n && eqb (i .low) (l .low) && eqb (i .high) (l .high)
@@ -104,7 +100,12 @@ over-not a b =
     (λ e. rw e (le-ltb b a (leb-true a b e)))
     (λ e. rw e (lt-ltb b a (leb-false a b e)))
 
--- A CHAIN OF SEVEN TESTS fails at the first that fails, and is the last where the others hold
+three-not : (a b c : Bool) → ((not a || not b) || not c) ≡ not (a && b && c)
+three-not true true c = refl
+three-not true false c = refl
+three-not false b c = refl
+
+-- A CHAIN OF SEVEN TESTS fails where the first or the second does
 
 fails-1 : (a b c x y z w : Bool) → a ≡ false → false ≡ (a && b && c && x && y && z && w)
 fails-1 a b c x y z w e1 = rw (e1) refl
@@ -112,22 +113,7 @@ fails-1 a b c x y z w e1 = rw (e1) refl
 fails-2 : (a b c x y z w : Bool) → a ≡ true → b ≡ false → false ≡ (a && b && c && x && y && z && w)
 fails-2 a b c x y z w e1 e2 = rw (e1, e2) refl
 
-fails-3 : (a b c x y z w : Bool) → a ≡ true → b ≡ true → c ≡ false → false ≡ (a && b && c && x && y && z && w)
-fails-3 a b c x y z w e1 e2 e3 = rw (e1, e2, e3) refl
-
-fails-4 : (a b c x y z w : Bool) → a ≡ true → b ≡ true → c ≡ true → x ≡ false → false ≡ (a && b && c && x && y && z && w)
-fails-4 a b c x y z w e1 e2 e3 e4 = rw (e1, e2, e3, e4) refl
-
-fails-5 : (a b c x y z w : Bool) → a ≡ true → b ≡ true → c ≡ true → x ≡ true → y ≡ false → false ≡ (a && b && c && x && y && z && w)
-fails-5 a b c x y z w e1 e2 e3 e4 e5 = rw (e1, e2, e3, e4, e5) refl
-
-fails-6 : (a b c x y z w : Bool) → a ≡ true → b ≡ true → c ≡ true → x ≡ true → y ≡ true → z ≡ false → false ≡ (a && b && c && x && y && z && w)
-fails-6 a b c x y z w e1 e2 e3 e4 e5 e6 = rw (e1, e2, e3, e4, e5, e6) refl
-
-last-of : (a b c x y z w : Bool) → a ≡ true → b ≡ true → c ≡ true → x ≡ true → y ≡ true → z ≡ true → w ≡ (a && b && c && x && y && z && w)
-last-of a b c x y z w e1 e2 e3 e4 e5 e6 = rw (e1, e2, e3, e4, e5, e6) refl
-
--- the desk is not sound at its first clause that fails, and sound where the last decides
+-- the desk is not sound where its first or its second clause fails
 module _ (H : Hierarchy) (d : Desk) where
   pub unsound-1 : listsParties d ≡ false → false ≡ soundDesk H d
   unfolding soundDesk
@@ -137,25 +123,101 @@ module _ (H : Hierarchy) (d : Desk) where
   unfolding soundDesk
   unsound-2 = fails-2 (listsParties d) (listsOnce d) (listsWaiting d) (intervalsReal d) (coversRight H d) (holdersApart d) (waitersHeldUp d)
 
-  pub unsound-3 : listsParties d ≡ true → listsOnce d ≡ true → listsWaiting d ≡ false → false ≡ soundDesk H d
-  unfolding soundDesk
-  unsound-3 = fails-3 (listsParties d) (listsOnce d) (listsWaiting d) (intervalsReal d) (coversRight H d) (holdersApart d) (waitersHeldUp d)
+-- THREE TESTS, one of which fails, or none
+pub three-1 : (a b c : Bool) → a ≡ false → false ≡ (a && b && c)
+three-1 a b c e = rw e refl
 
-  pub unsound-4 : listsParties d ≡ true → listsOnce d ≡ true → listsWaiting d ≡ true → intervalsReal d ≡ false → false ≡ soundDesk H d
-  unfolding soundDesk
-  unsound-4 = fails-4 (listsParties d) (listsOnce d) (listsWaiting d) (intervalsReal d) (coversRight H d) (holdersApart d) (waitersHeldUp d)
+pub three-2 : (a b c : Bool) → b ≡ false → false ≡ (a && b && c)
+three-2 true b c e = rw e refl
+three-2 false b c e = refl
 
-  pub unsound-5 : listsParties d ≡ true → listsOnce d ≡ true → listsWaiting d ≡ true → intervalsReal d ≡ true → coversRight H d ≡ false → false ≡ soundDesk H d
-  unfolding soundDesk
-  unsound-5 = fails-5 (listsParties d) (listsOnce d) (listsWaiting d) (intervalsReal d) (coversRight H d) (holdersApart d) (waitersHeldUp d)
+pub three-3 : (a b c : Bool) → c ≡ false → false ≡ (a && b && c)
+three-3 a b c e = rw e (sym (and-false (a && b)))
 
-  pub unsound-6 : listsParties d ≡ true → listsOnce d ≡ true → listsWaiting d ≡ true → intervalsReal d ≡ true → coversRight H d ≡ true → holdersApart d ≡ false → false ≡ soundDesk H d
-  unfolding soundDesk
-  unsound-6 = fails-6 (listsParties d) (listsOnce d) (listsWaiting d) (intervalsReal d) (coversRight H d) (holdersApart d) (waitersHeldUp d)
+pub three-all : (a b c : Bool) → true ≡ a → true ≡ b → true ≡ c → true ≡ (a && b && c)
+three-all a b c p q r = sym (and-both (a && b) c (and-both a b (sym p) (sym q)) (sym r))
 
-  pub sound-last : listsParties d ≡ true → listsOnce d ≡ true → listsWaiting d ≡ true → intervalsReal d ≡ true → coversRight H d ≡ true → holdersApart d ≡ true → waitersHeldUp d ≡ soundDesk H d
+-- TWO CLAUSES THAT NEED NO PASS. A cover that is right, of intervals that are not wrong, is real
+not-wrong : (H : Hierarchy) (node : ℕ) → anyBelow (H .n) (intervalWrong H) ≡ false → node < H .n → realInterval (lowIn H node) (highIn H node) ≡ true
+not-wrong H node right h =
+    let w = any-none (intervalWrong H) (H .n) node right h in
+    let u = or-left (not (realInterval (lowIn H node) (highIn H node)) || ltb (lowIn H node) (lowIn H 0)) (ltb (highIn H 0) (highIn H node)) w in
+    not-false (realInterval (lowIn H node) (highIn H node)) (or-left (not (realInterval (lowIn H node) (highIn H node))) (ltb (lowIn H node) (lowIn H 0)) u)
+
+lock-covered : (H : Hierarchy) (l : Lock) → anyBelow (H .n) (intervalWrong H) ≡ false → coverRight H l ≡ true → lockReal l ≡ true
+lock-covered H l right e =
+    let two = and-left (ltb (l .cover) (H .n) && eqb (lowIn H (l .cover)) (l .low)) (eqb (highIn H (l .cover)) (l .high)) e in
+    let below = ltb-true (l .cover) (H .n) (and-left (ltb (l .cover) (H .n)) (eqb (lowIn H (l .cover)) (l .low)) two) in
+    let low : lowIn H (l .cover) ≡ l .low = eqb-true _ _ (and-right (ltb (l .cover) (H .n)) (eqb (lowIn H (l .cover)) (l .low)) two) in
+    let high : highIn H (l .cover) ≡ l .high = eqb-true _ _ (and-right (ltb (l .cover) (H .n) && eqb (lowIn H (l .cover)) (l .low)) (eqb (highIn H (l .cover)) (l .high)) e) in
+    ap (λ (k : ℕ). realInterval k (l .high)) (sym low) ∙ ap (realInterval (lowIn H (l .cover))) (sym high) ∙ not-wrong H (l .cover) right below
+
+stage-covered : (H : Hierarchy) (s : Stage) → anyBelow (H .n) (intervalWrong H) ≡ false → ofLock (coverRight H) s ≡ true → ofLock lockReal s ≡ true
+stage-covered H Out right e = refl
+stage-covered H (Waiting l) right e = lock-covered H l right e
+stage-covered H (Holding l) right e = lock-covered H l right e
+
+pub covered-real : (H : Hierarchy) (d : Desk) → anyBelow (H .n) (intervalWrong H) ≡ false → coversRight H d ≡ true → intervalsReal d ≡ true
+covered-real H d right e =
+    all-of (λ party. ofLock lockReal (stageAt d party)) 32 (λ i h. stage-covered H (stageAt d i) right (all-at (λ party. ofLock (coverRight H) (stageAt d party)) 32 i e h))
+
+-- and who is held up waits
+held-waits : (entries : List Entry) (earlier : List ℕ) (s : Stage) → heldUp entries earlier s ≡ true → isWaiting s ≡ true
+held-waits entries earlier Out e = e
+held-waits entries earlier (Waiting l) e = refl
+held-waits entries earlier (Holding l) e = e
+
+pub held-listed : (d : Desk) → waitersHeldUp d ≡ true → allBelow (d .waiting) (λ i. isWaiting (stageAt d (listedAt d i))) ≡ true
+held-listed d e =
+    all-of (λ i. isWaiting (stageAt d (listedAt d i))) (d .waiting)
+    (λ i h. held-waits (d .entries) (take i (d .queue)) (stageAt d (listedAt d i)) (all-at (λ k. heldUp (d .entries) (take k (d .queue)) (stageAt d (listedAt d k))) (d .waiting) i e h))
+
+-- so three tests of the entries and the last clause decide
+entries-fail : (p o w a r c h u : Bool) → (a && c && h) ≡ false → false ≡ (p && o && (w && a) && r && c && h && u)
+entries-fail p o w a r c h u e =
+    bool (p && o && (w && a) && r && c && h && u)
+    (λ q.
+    let six = and-left (p && o && (w && a) && r && c && h) u q in
+    let five = and-left (p && o && (w && a) && r && c) h six in
+    let four = and-left (p && o && (w && a) && r) c five in
+    let three = and-left (p && o && (w && a)) r four in
+    let la : a ≡ true = and-right w a (and-right (p && o) (w && a) three) in
+    let lc : c ≡ true = and-right (p && o && (w && a) && r) c five in
+    let lh : h ≡ true = and-right (p && o && (w && a) && r && c) h six in
+    not-both (a && c && h) (and-both (a && c) h (and-both a c la lc) lh) e)
+    (λ q. sym q)
+
+entries-pass : (p o w a r c h u : Bool) → p ≡ true → o ≡ true → (a && c && h) ≡ true → (c ≡ true → r ≡ true) → (u ≡ true → w ≡ true)
+    → u ≡ (p && o && (w && a) && r && c && h && u)
+entries-pass p o w a r c h u ep eo e er ew =
+    let la : a ≡ true = and-left a c (and-left (a && c) h e) in
+    let lc : c ≡ true = and-right a c (and-left (a && c) h e) in
+    let lh : h ≡ true = and-right (a && c) h e in
+    bool u
+    (λ q. rw (ep, eo, ew q, la, er lc, lc, lh) refl)
+    (λ q. q ∙ sym (rw q (and-false (p && o && (w && a) && r && c && h))))
+
+module _ (H : Hierarchy) (d : Desk) where
+  pub unsound-entries : entriesRight H d ≡ false → false ≡ soundDesk H d
   unfolding soundDesk
-  sound-last = last-of (listsParties d) (listsOnce d) (listsWaiting d) (intervalsReal d) (coversRight H d) (holdersApart d) (waitersHeldUp d)
+  unsound-entries = entries-fail (listsParties d) (listsOnce d) (allBelow (d .waiting) (λ i. isWaiting (stageAt d (listedAt d i)))) (allBelow 32 (λ party. not (isWaiting (stageAt d party)) || isListed d party)) (intervalsReal d) (coversRight H d) (holdersApart d) (waitersHeldUp d)
+
+  pub sound-held : anyBelow (H .n) (intervalWrong H) ≡ false → listsParties d ≡ true → listsOnce d ≡ true → entriesRight H d ≡ true → waitersHeldUp d ≡ soundDesk H d
+  unfolding soundDesk
+  sound-held right ep eo e =
+      entries-pass (listsParties d) (listsOnce d) (allBelow (d .waiting) (λ i. isWaiting (stageAt d (listedAt d i)))) (allBelow 32 (λ party. not (isWaiting (stageAt d party)) || isListed d party)) (intervalsReal d) (coversRight H d) (holdersApart d) (waitersHeldUp d)
+      ep eo e (covered-real H d right) (held-listed d)
+
+-- one number more to look at
+pub any-one-more : (p : ℕ → Bool) (i : ℕ) (so-far here : Bool) → so-far ≡ anyBelow i p → here ≡ p i → (so-far || here) ≡ anyBelow (i + 1) p
+unfolding anyBelow
+any-one-more p i so-far here e f = rw add-one (ap (_|| here) e ∙ ap (anyBelow i p ||_) f)
+
+-- the five tests of an interval
+pub outside-tests : (low high least most : ℕ) → ((((ltb low 1 || ltb high low) || ltb 256 high) || ltb low least) || ltb most high) ≡ outside low high least most
+outside-tests low high least most =
+    rw (over-not 1 low, over-not low high, over-not high 256)
+    (ap (λ (b : Bool). (b || ltb low least) || ltb most high) (three-not (leb 1 low) (leb low high) (leb high 256)))
 
 -- a desk that lists parties lists at most 32
 pub lists-few : (d : Desk) → listsParties d ≡ true → d .waiting ≤ 32

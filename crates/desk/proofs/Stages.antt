@@ -4,11 +4,11 @@ use mathlib.Core.List.{List}
 use mathlib.Core.Bool.{Bool, true, not, _&&_}
 use Prim.Native.Nat.{ℕ, _≤_}
 use native.Mathlib.Omega.{arith}
-use lib.Dec.{leb}
+use lib.Dec.{leb, ltb}
 use lib.ListN.{length, List·getD-eq-default}
-use borrow.Author.Tests.{leb-true}
+use borrow.Author.Tests.{leb-true, ltb-false}
 use Rattle.intervals.specs.Lists.{one}
-use Rattle.intervals.proofs.Bools.{and-left, and-right, not-both}
+use Rattle.intervals.proofs.Bools.{bool, and-left, and-right, not-both}
 use Rattle.desk.specs.declared.Stage.{Stage}
 use Rattle.desk.specs.declared.Stage.the-variants.{Out, Waiting, Holding}
 use Rattle.desk.specs.declared.Lock.{Lock}
@@ -16,10 +16,19 @@ use Rattle.desk.specs.declared.Entry.{Entry}
 use Rattle.desk.specs.Locks.{conflict, realInterval, isMode, isHold, lockNumbered, conflictCall}
 use Rattle.desk.specs.Desks.{entryOf, stageIn, isOut, isWaiting}
 use Rattle.desk.specs.Sound.{holdersConflict}
+use Rattle.desk.specs.Inner.{placeOf, seatedAt}
 
 -- past the entries everybody is out
 pub past-out : (entries : List Entry) (party : ℕ) → length entries ≤ party → Out ≡ stageIn entries party
 past-out entries party h = ap (λ (e : Entry). e .stage) (sym (List·getD-eq-default entries (entryOf Out) h))
+
+-- what is read at a party's place is the party's stage
+pub seated-stage : (entries : List Entry) (party at : ℕ) → length entries ≡ 32 → at ≡ placeOf party → seatedAt party (stageIn entries at) ≡ stageIn entries party
+seated-stage entries party at long e =
+    ap (λ (k : ℕ). seatedAt party (stageIn entries k)) e
+    ∙ bool (ltb party 32)
+    (λ h. rw h refl)
+    (λ h. rw h (past-out entries party (let q : 32 ≤ party = ltb-false party 32 h in omega arith)))
 
 -- the bounds of a hold of the conflict call fit a lock
 pub hold-bounds : (m low high : ℕ) → isHold m low high ≡ true → (low ≤ 256) × (high ≤ 256)

@@ -1,21 +1,38 @@
 -- Terms of the contracts of private functions only: no definition of the paper is here. Assumes nothing.
 use mathlib.Core.List.{List, [], _∷_}
-use mathlib.Core.Bool.{Bool, true, false, not, _||_}
+use mathlib.Core.Bool.{Bool, true, false, not, cond, _&&_, _||_}
 use mathlib.Core.Path.{_≡_}
 use mathlib.Core.Option.{Option, some}
 use Prim.Native.Nat.{ℕ, _+_}
 use lib.Dec.{eqb, ltb}
 use lib.ListN.{length, set}
-use Rattle.intervals.specs.Lists.{keep, over}
+use Rattle.intervals.specs.Lists.{allBelow, keep, over}
 use Rattle.intervals.specs.Answer.{Check, _when_, refusal}
-use Rattle.desk.specs.declared.Lock.{Lock}
 use Rattle.desk.specs.declared.Stage.{Stage}
 use Rattle.desk.specs.declared.Stage.the-variants.{Out, Waiting, Holding}
 use Rattle.desk.specs.declared.Entry.{Entry}
 use Rattle.desk.specs.declared.Desk.{Desk}
 use Rattle.desk.specs.declared.Swept.{Swept}
 use Rattle.desk.specs.Desks.{Hierarchy, lent, entryOf, stageAt, isOut, isWaiting, queueOf, queuePlaces, meetsHolder, meetsWaiter}
+use Rattle.desk.specs.Locks.{realInterval}
+use Rattle.desk.specs.Sound.{isListed, coversRight, holdersApart}
 use Rattle.desk.specs.Steps.{stepChecks, insideHold, Sweep, sweep}
+
+-- the place of a party's entry; that of party 0 for a party over 31
+abbrev pub placeOf : ℕ → ℕ
+placeOf party = cond (ltb party 32) party 0
+
+-- the stage of a party by what stands at its place
+abbrev pub seatedAt : ℕ → Stage → Stage
+seatedAt party stage = cond (ltb party 32) stage Out
+
+-- an interval is not real, or not inside another
+abbrev pub outside : (low high least most : ℕ) → Bool
+outside low high least most = not (realInterval low high) || ltb low least || ltb most high
+
+-- each that waits is listed, all covers are right, and no two holders conflict
+abbrev pub entriesRight : Hierarchy → Desk → Bool
+entriesRight H d = allBelow 32 (λ party. not (isWaiting (stageAt d party)) || isListed d party) && coversRight H d && holdersApart d
 
 -- a party at this stage waits, and is granted on these entries, with these still waiting before it
 abbrev pub mayGo : List Entry → List ℕ → Stage → Bool

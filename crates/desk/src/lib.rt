@@ -1,18 +1,18 @@
 // The desk: who may be in which nodes. Modes, locks, the desk, its four steps, and the conflict call for the C host.
 ghost use mathlib.Core.Path.{_≡_};
-ghost use mathlib.Core.Bool.{true, _||_, not};
+ghost use mathlib.Core.Bool.{true, false, _||_, not};
 ghost use lib.Dec.{eqb, ltb};
 ghost use Rattle.intervals.specs.Lists.{allBelow, anyBelow, any};
 ghost use Rattle.intervals.specs.Hierarchy.{sizeWrong};
 ghost use mathlib.Core.List.{[]};
 ghost use Prim.Native.Nat.{ℕ, _+_, _*_, _≤_, _<_};
-ghost use lib.ListN.{length, take, set};
+ghost use lib.ListN.{length, getD, take, set};
 ghost use Rattle.desk.specs.Locks.{bothReading, share, conflict as conflicting, realInterval, isMode, isHold, modeNumbered, lockNumbered, conflictCall};
-ghost use Rattle.desk.specs.Desks.{lent, stageAt, listedAt, queueOf, queuePlaces, freshDesk, isOut, isWaiting, againstHolder, againstWaiter, meetsHolder, meetsWaiter};
-ghost use Rattle.desk.specs.Sound.{listsParties, listsOnce, isListed, listsWaiting, ofLock, lockReal, intervalsReal, holdersConflict, holdersApart, heldUp, waitersHeldUp, coverRight, coversRight, soundDesk};
+ghost use Rattle.desk.specs.Desks.{lent, stageAt, queueOf, queuePlaces, freshDesk, isOut, isWaiting, againstHolder, againstWaiter, meetsHolder, meetsWaiter};
+ghost use Rattle.desk.specs.Sound.{listsParties, listsOnce, ofLock, holdersConflict, heldUp, waitersHeldUp, coverRight, soundDesk};
 ghost use Rattle.desk.specs.Steps.{free, countGrants, tablesShort, intervalWrong, namesWrong, lockOn, insideLock, insideHold, isReading, readsOnly, grantTo, queueLast, enterStep, getStep, putStep, leaveStep};
 ghost use Rattle.desk.specs.Answers.{Enters, Gets, Puts, Leaves};
-ghost use Rattle.desk.specs.Inner.{spanned, Judged, NodeJudged, goneDesk, withGrants, mayGo, held, withStage, withLast, othersOf, Sweeps};
+ghost use Rattle.desk.specs.Inner.{placeOf, seatedAt, outside, entriesRight, spanned, Judged, NodeJudged, goneDesk, withGrants, mayGo, held, withStage, withLast, othersOf, Sweeps};
 
 // A visit is reading or writing.
 pub enum Mode {
@@ -179,6 +179,127 @@ fn is_waiting(s: Stage) -> bool
     }
 }
 
+// The party at a place of an arrival list; 0 past its places.
+fn party_at(queue: &[u8], i: usize) -> usize
+    ensures { λ r. ⌜ r ≡ getD (now (queue .entry)) i 0 ⌝ }
+{
+    if i < queue.len() {
+        return queue[i] as usize;
+    }
+    0
+}
+
+// The place of a party's entry; that of party 0 for a party over 31.
+fn place(party: usize) -> usize
+    ensures { λ r. ⌜ (r < 32) × (r ≡ placeOf party) ⌝ }
+{
+    if party < 32 {
+        return party;
+    }
+    0
+}
+
+// The stage of a party by what stands at its place; a party over 31 counts as out.
+fn seated(party: usize, s: Stage) -> Stage
+    ensures { λ r. ⌜ r ≡ seatedAt party s ⌝ }
+{
+    if party < 32 {
+        return s;
+    }
+    Stage::Out
+}
+
+// Whether a lock conflicts with what a party waits for, by what stands at its place.
+fn waits_against(l: Lock, party: usize, s: Stage) -> bool
+    ensures { λ r. ⌜ r ≡ againstWaiter l (seatedAt party s) ⌝ }
+{
+    let t = seated(party, s);
+    against_waiter(l, t)
+}
+
+// Whether a lock conflicts with what a party at this stage holds or waits for.
+fn stands_against(l: Lock, here: Stage) -> bool
+    ensures { λ r. ⌜ r ≡ againstHolder l here || againstWaiter l here ⌝ }
+{
+    if against_holder(l, here) {
+        return true;
+    }
+    against_waiter(l, here)
+}
+
+// Whether a place of an arrival list has a party from 0 to 31.
+fn lists_party(queue: &[u8], i: usize) -> bool
+    ensures { λ r. ⌜ r ≡ ltb (getD (now (queue .entry)) i 0) 32 ⌝ }
+{
+    party_at(queue, i) < 32
+}
+
+// Whether each of the first places of an arrival list has a party from 0 to 31.
+fn all_parties(queue: &[u8], waiting: usize) -> bool
+    ensures { λ r. ⌜ r ≡ allBelow waiting (λ i. ltb (getD (now (queue .entry)) i 0) 32) ⌝ }
+{
+    let mut i = 0;
+    while i < waiting {
+        if !lists_party(queue, i) {
+            return false;
+        }
+        i += 1;
+    }
+    true
+}
+
+// Whether two places of an arrival list have different parties.
+fn lists_apart(queue: &[u8], i: usize, j: usize) -> bool
+    ensures { λ r. ⌜ r ≡ not (eqb (getD (now (queue .entry)) i 0) (getD (now (queue .entry)) j 0)) ⌝ }
+{
+    party_at(queue, i) != party_at(queue, j)
+}
+
+// Whether no earlier place of an arrival list has the party of this one.
+fn lists_first(queue: &[u8], i: usize) -> bool
+    ensures { λ r. ⌜ r ≡ allBelow i (λ j. not (eqb (getD (now (queue .entry)) i 0) (getD (now (queue .entry)) j 0))) ⌝ }
+{
+    let mut j = 0;
+    while j < i {
+        if !lists_apart(queue, i, j) {
+            return false;
+        }
+        j += 1;
+    }
+    true
+}
+
+// Whether a place of an arrival list has this party.
+fn lists_at(queue: &[u8], party: usize, i: usize) -> bool
+    ensures { λ r. ⌜ r ≡ eqb (getD (now (queue .entry)) i 0) party ⌝ }
+{
+    party_at(queue, i) == party
+}
+
+// Whether the first places of an arrival list have the party.
+fn is_listed(queue: &[u8], waiting: usize, party: usize) -> bool
+    ensures { λ r. ⌜ r ≡ anyBelow waiting (λ i. eqb (getD (now (queue .entry)) i 0) party) ⌝ }
+{
+    let mut i = 0;
+    while i < waiting {
+        if lists_at(queue, party, i) {
+            return true;
+        }
+        i += 1;
+    }
+    false
+}
+
+// Whether a party at this stage is listed if it waits.
+fn listed_if_waiting(queue: &[u8], waiting: usize, party: usize, s: Stage) -> bool
+    ensures { λ r. ⌜ r ≡ not (isWaiting s) || anyBelow waiting (λ i. eqb (getD (now (queue .entry)) i 0) party) ⌝ }
+{
+    if !is_waiting(s) {
+        return true;
+    }
+    is_listed(queue, waiting, party)
+}
+
 impl Desk {
     // A fresh desk: all parties out, nobody waiting, no grant.
     pub fn fresh() -> Desk
@@ -203,31 +324,15 @@ impl Desk {
         Stage::Out
     }
 
-    // The party at a place of the arrival list; 0 past its places.
-    fn listed(self, i: usize) -> usize
-        ensures { λ r. ⌜ r ≡ listedAt self i ⌝ }
-    {
-        if i < 32 {
-            return self.queue[i] as usize;
-        }
-        0
-    }
-
-    // Whether a lock conflicts with what a party holds.
-    fn holds_against(self, l: Lock, party: usize) -> bool
-        ensures { λ r. ⌜ r ≡ againstHolder l (stageAt self party) ⌝ }
-    {
-        let s = self.stage(party);
-        against_holder(l, s)
-    }
-
     // Whether a lock conflicts with a holder.
     fn meets_holder(self, l: Lock) -> bool
         ensures { λ r. ⌜ r ≡ meetsHolder (self .entries) l ⌝ }
     {
         let mut i = 0;
         while i < 32 {
-            if self.holds_against(l, i) {
+            let e = self.entries[i];
+            let s = e.stage;
+            if against_holder(l, s) {
                 return true;
             }
             i += 1;
@@ -235,23 +340,19 @@ impl Desk {
         false
     }
 
-    // Whether a lock conflicts with what the party at a place of the arrival list waits for.
-    fn waits_against(self, l: Lock, i: usize) -> bool
-        ensures { λ r. ⌜ r ≡ againstWaiter l (stageAt self (listedAt self i)) ⌝ }
-    {
-        let party = self.listed(i);
-        let s = self.stage(party);
-        against_waiter(l, s)
-    }
-
     // Whether a lock conflicts with a waiter at the first k places of the arrival list.
     fn meets_waiter(self, k: usize, l: Lock) -> bool
         requires { ⌜ k ≤ 32 ⌝ }
         ensures { λ r. ⌜ r ≡ meetsWaiter (self .entries) (take k (self .queue)) l ⌝ }
     {
+        let queue = self.queue;
         let mut i = 0;
         while i < k {
-            if self.waits_against(l, i) {
+            let party = party_at(&queue, i);
+            let at = place(party);
+            let e = self.entries[at];
+            let s = e.stage;
+            if waits_against(l, party, s) {
                 return true;
             }
             i += 1;
@@ -270,16 +371,14 @@ impl Desk {
         self.meets_waiter(k, l)
     }
 
-    // Whether the party at a place of the arrival list waits, and conflicts with a holder or an earlier waiter.
-    fn held_up(self, i: usize) -> bool
-        requires { ⌜ i ≤ 32 ⌝ }
-        ensures { λ r. ⌜ r ≡ heldUp (self .entries) (take i (self .queue)) (stageAt self (listedAt self i)) ⌝ }
+    // Whether a party at this stage waits, and conflicts with a holder or a waiter at the first k places of the arrival list.
+    fn held_up(self, k: usize, s: Stage) -> bool
+        requires { ⌜ k ≤ 32 ⌝ }
+        ensures { λ r. ⌜ r ≡ heldUp (self .entries) (take k (self .queue)) s ⌝ }
     {
-        let party = self.listed(i);
-        let s = self.stage(party);
         match s {
             Stage::Out => false,
-            Stage::Waiting(l) => self.meets(i, l),
+            Stage::Waiting(l) => self.meets(k, l),
             Stage::Holding(_) => false,
         }
     }
@@ -290,25 +389,20 @@ impl Desk {
         ensures { λ r. ⌜ r ≡ waitersHeldUp self ⌝ }
     {
         let waiting = self.waiting;
+        let queue = self.queue;
         let mut i = 0;
         while i < waiting {
-            if !self.held_up(i) {
+            let party = party_at(&queue, i);
+            let at = place(party);
+            let e = self.entries[at];
+            let here = e.stage;
+            let s = seated(party, here);
+            if !self.held_up(i, s) {
                 return false;
             }
             i += 1;
         }
         true
-    }
-
-    // Whether a lock conflicts with what a party holds or waits for.
-    fn stands_against(self, l: Lock, party: usize) -> bool
-        ensures { λ r. ⌜ r ≡ againstHolder l (stageAt self party) || againstWaiter l (stageAt self party) ⌝ }
-    {
-        let here = self.stage(party);
-        if against_holder(l, here) {
-            return true;
-        }
-        against_waiter(l, here)
     }
 
     // Whether a lock conflicts with no holder and no waiter.
@@ -317,29 +411,9 @@ impl Desk {
     {
         let mut i = 0;
         while i < 32 {
-            if self.stands_against(l, i) {
-                return false;
-            }
-            i += 1;
-        }
-        true
-    }
-
-    // Whether a place of the arrival list has a party from 0 to 31.
-    fn lists_party(self, i: usize) -> bool
-        ensures { λ r. ⌜ r ≡ ltb (listedAt self i) 32 ⌝ }
-    {
-        self.listed(i) < 32
-    }
-
-    // Whether every place of the arrival list has a party from 0 to 31.
-    fn all_listed_parties(self) -> bool
-        ensures { λ r. ⌜ r ≡ allBelow (self .waiting) (λ i. ltb (listedAt self i) 32) ⌝ }
-    {
-        let waiting = self.waiting;
-        let mut i = 0;
-        while i < waiting {
-            if !self.lists_party(i) {
+            let e = self.entries[i];
+            let s = e.stage;
+            if stands_against(l, s) {
                 return false;
             }
             i += 1;
@@ -354,28 +428,9 @@ impl Desk {
         if 32 < self.waiting {
             return false;
         }
-        self.all_listed_parties()
-    }
-
-    // Whether two places of the arrival list have different parties.
-    fn lists_apart(self, i: usize, j: usize) -> bool
-        ensures { λ r. ⌜ r ≡ not (eqb (listedAt self i) (listedAt self j)) ⌝ }
-    {
-        self.listed(i) != self.listed(j)
-    }
-
-    // Whether no earlier place of the arrival list has the party of this one.
-    fn lists_first(self, i: usize) -> bool
-        ensures { λ r. ⌜ r ≡ allBelow i (λ j. not (eqb (listedAt self i) (listedAt self j))) ⌝ }
-    {
-        let mut j = 0;
-        while j < i {
-            if !self.lists_apart(i, j) {
-                return false;
-            }
-            j += 1;
-        }
-        true
+        let waiting = self.waiting;
+        let queue = self.queue;
+        all_parties(&queue, waiting)
     }
 
     // Whether no two places of the arrival list have the same party.
@@ -383,9 +438,10 @@ impl Desk {
         ensures { λ r. ⌜ r ≡ listsOnce self ⌝ }
     {
         let waiting = self.waiting;
+        let queue = self.queue;
         let mut i = 0;
         while i < waiting {
-            if !self.lists_first(i) {
+            if !lists_first(&queue, i) {
                 return false;
             }
             i += 1;
@@ -393,125 +449,16 @@ impl Desk {
         true
     }
 
-    // Whether the party at a place of the arrival list waits.
-    fn listed_waits(self, i: usize) -> bool
-        ensures { λ r. ⌜ r ≡ isWaiting (stageAt self (listedAt self i)) ⌝ }
-    {
-        let party = self.listed(i);
-        let s = self.stage(party);
-        is_waiting(s)
-    }
-
-    // Whether each that is listed waits.
-    fn all_listed_wait(self) -> bool
-        ensures { λ r. ⌜ r ≡ allBelow (self .waiting) (λ i. isWaiting (stageAt self (listedAt self i))) ⌝ }
-    {
-        let waiting = self.waiting;
-        let mut i = 0;
-        while i < waiting {
-            if !self.listed_waits(i) {
-                return false;
-            }
-            i += 1;
-        }
-        true
-    }
-
-    // Whether a place of the arrival list has this party.
-    fn lists_at(self, party: usize, i: usize) -> bool
-        ensures { λ r. ⌜ r ≡ eqb (listedAt self i) party ⌝ }
-    {
-        self.listed(i) == party
-    }
-
-    // Whether the arrival list has the party.
-    fn is_listed(self, party: usize) -> bool
-        ensures { λ r. ⌜ r ≡ isListed self party ⌝ }
-    {
-        let waiting = self.waiting;
-        let mut i = 0;
-        while i < waiting {
-            if self.lists_at(party, i) {
-                return true;
-            }
-            i += 1;
-        }
-        false
-    }
-
-    // Whether a party that waits is listed.
-    fn listed_if_waiting(self, party: usize) -> bool
-        ensures { λ r. ⌜ r ≡ not (isWaiting (stageAt self party)) || isListed self party ⌝ }
-    {
-        let s = self.stage(party);
-        if !is_waiting(s) {
-            return true;
-        }
-        self.is_listed(party)
-    }
-
-    // Whether each that waits is listed.
-    fn all_waiting_listed(self) -> bool
-        ensures { λ r. ⌜ r ≡ allBelow 32 (λ party. not (isWaiting (stageAt self party)) || isListed self party) ⌝ }
-    {
-        let mut i = 0;
-        while i < 32 {
-            if !self.listed_if_waiting(i) {
-                return false;
-            }
-            i += 1;
-        }
-        true
-    }
-
-    // Whether the arrival list has just the waiting parties.
-    fn lists_waiting(self) -> bool
-        ensures { λ r. ⌜ r ≡ listsWaiting self ⌝ }
-    {
-        if !self.all_listed_wait() {
-            return false;
-        }
-        self.all_waiting_listed()
-    }
-
-    // Whether the interval of what a party holds or waits for is real.
-    fn interval_real(self, party: usize) -> bool
-        ensures { λ r. ⌜ r ≡ ofLock lockReal (stageAt self party) ⌝ }
-    {
-        let s = self.stage(party);
-        stage_real(s)
-    }
-
-    // Whether all intervals at the desk are real.
-    fn intervals_real(self) -> bool
-        ensures { λ r. ⌜ r ≡ intervalsReal self ⌝ }
-    {
-        let mut i = 0;
-        while i < 32 {
-            if !self.interval_real(i) {
-                return false;
-            }
-            i += 1;
-        }
-        true
-    }
-
-    // Whether two parties do not hold in conflict.
-    fn apart(self, party: usize, other: usize) -> bool
-        ensures { λ r. ⌜ r ≡ not (holdersConflict (stageAt self party) (stageAt self other)) ⌝ }
-    {
-        let s = self.stage(party);
-        let t = self.stage(other);
-        !holders_conflict(s, t)
-    }
-
-    // Whether a party holds in conflict with none before it.
-    fn apart_from_earlier(self, party: usize) -> bool
-        ensures { λ r. ⌜ r ≡ allBelow party (λ other. not (holdersConflict (stageAt self party) (stageAt self other))) ⌝ }
+    // Whether a party at this stage holds in conflict with none of the first `party` parties.
+    fn apart_from_earlier(self, party: usize, s: Stage) -> bool
+        requires { ⌜ party ≤ 32 ⌝ }
+        ensures { λ r. ⌜ r ≡ allBelow party (λ other. not (holdersConflict s (stageAt self other))) ⌝ }
     {
         let mut i = 0;
         while i < party {
-            if !self.apart(party, i) {
+            let e = self.entries[i];
+            let t = e.stage;
+            if holders_conflict(s, t) {
                 return false;
             }
             i += 1;
@@ -519,32 +466,18 @@ impl Desk {
         true
     }
 
-    // The same: a party that does not hold needs no look at those before it.
-    fn holds_apart(self, party: usize) -> bool
-        ensures { λ r. ⌜ r ≡ allBelow party (λ other. not (holdersConflict (stageAt self party) (stageAt self other))) ⌝ }
+    // The same: who does not hold needs no look at the others.
+    fn holds_apart(self, party: usize, s: Stage) -> bool
+        requires { ⌜ party ≤ 32 ⌝ }
+        ensures { λ r. ⌜ r ≡ allBelow party (λ other. not (holdersConflict s (stageAt self other))) ⌝ }
     {
-        let s = self.stage(party);
         if is_out(s) {
             return true;
         }
         if is_waiting(s) {
             return true;
         }
-        self.apart_from_earlier(party)
-    }
-
-    // Whether no two holders conflict.
-    fn holders_apart(self) -> bool
-        ensures { λ r. ⌜ r ≡ holdersApart self ⌝ }
-    {
-        let mut i = 0;
-        while i < 32 {
-            if !self.holds_apart(i) {
-                return false;
-            }
-            i += 1;
-        }
-        true
+        self.apart_from_earlier(party, s)
     }
 
     // The places of the arrival list with zeros behind it.
@@ -653,21 +586,23 @@ impl Desk {
         Swept { desk: d, granted }
     }
 
-    // Whether the cover of what a party holds or waits for is right.
-    fn cover_right(self, n: usize, intervals: &[u16], party: usize) -> bool
-        ensures { λ r. ⌜ r ≡ ofLock (coverRight (spanned n (now (intervals .entry)))) (stageAt self party) ⌝ }
+    // Whether each that waits is listed, all covers at the desk are right, and no two holders conflict: one pass over the entries.
+    fn entries_right(self, n: usize, intervals: &[u16]) -> bool
+        ensures { λ r. ⌜ r ≡ entriesRight (spanned n (now (intervals .entry))) self ⌝ }
     {
-        let s = self.stage(party);
-        stage_right(s, n, intervals)
-    }
-
-    // Whether all covers at the desk are right.
-    fn covers_right(self, n: usize, intervals: &[u16]) -> bool
-        ensures { λ r. ⌜ r ≡ coversRight (spanned n (now (intervals .entry))) self ⌝ }
-    {
+        let waiting = self.waiting;
+        let queue = self.queue;
         let mut i = 0;
         while i < 32 {
-            if !self.cover_right(n, intervals, i) {
+            let e = self.entries[i];
+            let s = e.stage;
+            if !listed_if_waiting(&queue, waiting, i, s) {
+                return false;
+            }
+            if !stage_right(s, n, intervals) {
+                return false;
+            }
+            if !self.holds_apart(i, s) {
                 return false;
             }
             i += 1;
@@ -675,8 +610,10 @@ impl Desk {
         true
     }
 
-    // Whether the desk is sound.
+    // Whether the desk is sound, over intervals that are not wrong. A right cover has a real interval then, and who is held up waits:
+    // these two clauses need no pass.
     fn sound(self, n: usize, intervals: &[u16]) -> bool
+        requires { ⌜ anyBelow n (intervalWrong (spanned n (now intervals))) ≡ false ⌝ }
         ensures { λ r. ⌜ r ≡ soundDesk (spanned n (now (intervals .entry))) self ⌝ }
     {
         if !self.lists_parties() {
@@ -685,16 +622,7 @@ impl Desk {
         if !self.lists_once() {
             return false;
         }
-        if !self.lists_waiting() {
-            return false;
-        }
-        if !self.intervals_real() {
-            return false;
-        }
-        if !self.covers_right(n, intervals) {
-            return false;
-        }
-        if !self.holders_apart() {
+        if !self.entries_right(n, intervals) {
             return false;
         }
         self.waiters_held_up()
@@ -1037,24 +965,6 @@ fn real_interval(low: u32, high: u32) -> bool
     high <= 256
 }
 
-// Whether a lock's interval is real.
-fn lock_real(l: Lock) -> bool
-    ensures { λ r. ⌜ r ≡ lockReal l ⌝ }
-{
-    real_interval(l.low as u32, l.high as u32)
-}
-
-// Whether what a party at this stage holds or waits for has a real interval.
-fn stage_real(s: Stage) -> bool
-    ensures { λ r. ⌜ r ≡ ofLock lockReal s ⌝ }
-{
-    match s {
-        Stage::Out => true,
-        Stage::Waiting(l) => lock_real(l),
-        Stage::Holding(l) => lock_real(l),
-    }
-}
-
 // Whether parties at these stages hold in conflict.
 fn holders_conflict(s: Stage, t: Stage) -> bool
     ensures { λ r. ⌜ r ≡ holdersConflict s t ⌝ }
@@ -1092,33 +1002,28 @@ fn stage_right(s: Stage, n: usize, intervals: &[u16]) -> bool
     }
 }
 
-// Whether a node's interval is not real or not inside node 0's.
-fn interval_wrong(intervals: &[u16], node: usize) -> bool
-    ensures { λ r. ⌜ r ≡ intervalWrong (spanned 0 (now (intervals .entry))) node ⌝ }
+// Whether an interval is not real or not inside another, that of node 0. All five tests are made, so that many are made at once.
+fn interval_wrong(low: u16, high: u16, least: u16, most: u16) -> bool
+    ensures { λ r. ⌜ r ≡ outside low high least most ⌝ }
 {
-    let i = intervals::interval_at(intervals, node);
-    let root = intervals::interval_at(intervals, 0);
-    if !real_interval(i.low as u32, i.high as u32) {
-        return true;
-    }
-    if i.low < root.low {
-        return true;
-    }
-    root.high < i.high
+    (low < 1) | (high < low) | (256 < high) | (low < least) | (most < high)
 }
 
 // Whether the interval of some node below n is wrong.
 fn some_interval_wrong(n: usize, intervals: &[u16]) -> bool
+    requires { ⌜ 2 * n ≤ length (now intervals) ⌝ }
     ensures { λ r. ⌜ r ≡ anyBelow n (intervalWrong (spanned n (now (intervals .entry)))) ⌝ }
 {
+    let root = intervals::interval_at(intervals, 0);
+    let mut wrong = false;
     let mut i = 0;
     while i < n {
-        if interval_wrong(intervals, i) {
-            return true;
-        }
+        let low = intervals[2 * i];
+        let high = intervals[2 * i + 1];
+        wrong = wrong | interval_wrong(low, high, root.low, root.high);
         i += 1;
     }
-    false
+    wrong
 }
 
 // Whether the tables are shorter than n and the edge count say.

@@ -1,10 +1,10 @@
--- The table that relaxing starts from, made in place: the numbers of its first half are spread over the whole, from the last down. Assumes nothing.
+-- The table that relaxing starts from: each number twice, as a low and as a high, from the last node down. Assumes nothing.
 use mathlib.Core.Path.{_≡_, refl, sym, ap, _∙_}
 use mathlib.Core.List.{List, _∷_}
 use Prim.Native.Nat.{ℕ, suc, _+_, _*_, _-_, _≤_, _<_}
 use native.Mathlib.Omega.{arith}
 use lib.ListN.{length, getD, set, take, drop, length-set, drop-of-length-le}
-use lib.Seq.{drop-cons, drop-set-lt, getD-set-same, getD-set-other, getD-take, length-take-le}
+use lib.Seq.{drop-cons, drop-set-lt, getD-set-same, getD-take, length-take-le}
 use Rattle.intervals.specs.Inner.{orMost, doubled}
 
 -- two stores, side by side
@@ -20,48 +20,42 @@ two-set l i low high h =
     (drop-cons (set l (2 * i + 1) high) (2 * i + 1) 0 (omega arith)
     ∙ rw (getD-set-same l (2 * i + 1) high 0 h, drop-set-lt (suc (2 * i + 1)) l (2 * i + 1) high (omega arith), n) refl))
 
--- the loop, at a node: the numbers before it still stand, and from its place on all is done
-pub record Doubling (n : ℕ) (table₀ : List ℕ) (node : ℕ) (table : List ℕ) : Type 0 where
+-- the loop, at a node: from its place on all is done
+pub record Doubling (n : ℕ) (numbers table₀ : List ℕ) (node : ℕ) (table : List ℕ) : Type 0 where
   pub so-far : node ≤ n
   pub long : length table ≡ length table₀
-  pub front : (i : ℕ) → i < node → getD table i 0 ≡ getD table₀ i 0
-  pub back : drop (2 * node) table ≡ doubled (drop node (take n table₀))
+  pub back : drop (2 * node) table ≡ doubled (drop node (take n numbers))
 
-module _ (n : ℕ) (table₀ : List ℕ) (whole : length table₀ ≡ 2 * n) where
-  half : length (take n table₀) ≡ n
-  half = length-take-le n table₀ (omega arith)
+module _ (n : ℕ) (numbers table₀ : List ℕ) (enough : n ≤ length numbers) (whole : length table₀ ≡ 2 * n) where
+  front : length (take n numbers) ≡ n
+  front = length-take-le n numbers enough
 
-  pub doubling-start : Doubling n table₀ n table₀
+  pub doubling-start : Doubling n numbers table₀ n table₀
   unfolding doubled
   doubling-start =
       record {
         so-far = omega arith;
         long = refl;
-        front = λ i h. refl;
-        back = rw (drop-of-length-le table₀ {i = 2 * n} (omega arith), drop-of-length-le (take n table₀) {i = n} (omega (arith, half))) refl;
+        back = rw (drop-of-length-le table₀ {i = 2 * n} (omega arith), drop-of-length-le (take n numbers) {i = n} (omega (arith, front))) refl;
       }
 
-  module _ (node : ℕ) (table : List ℕ) (d : Doubling n table₀ node table) where
-    pub doubling-more : (low : ℕ) → 0 < node → low ≡ orMost (getD table (node - 1) 0)
-        → Doubling n table₀ (node - 1) (set (set table (2 * (node - 1) + 1) (getD table (node - 1) 0)) (2 * (node - 1)) low)
+  module _ (node : ℕ) (table : List ℕ) (d : Doubling n numbers table₀ node table) where
+    pub doubling-more : (low : ℕ) → 0 < node → low ≡ orMost (getD numbers (node - 1) 0)
+        → Doubling n numbers table₀ (node - 1) (set (set table (2 * (node - 1) + 1) (getD numbers (node - 1) 0)) (2 * (node - 1)) low)
     unfolding doubled
     doubling-more low h e =
         let k : ℕ = node - 1 in
-        let x : ℕ = getD table k 0 in
+        let x : ℕ = getD numbers k 0 in
         let s : k + 1 ≡ node = omega arith in
         let r : suc k ≡ node = omega arith in
-        let same : x ≡ getD (take n table₀) k 0 = d .front k (omega arith) ∙ sym (getD-take n table₀ k 0 (omega (arith, d .so-far))) in
+        let same : x ≡ getD (take n numbers) k 0 = sym (getD-take n numbers k 0 (omega (arith, d .so-far))) in
         record {
           so-far = omega (arith, d .so-far);
           long = length-set (set table (2 * k + 1) x) (2 * k) low ∙ length-set table (2 * k + 1) x ∙ d .long;
-          front = λ i l.
-              getD-set-other (set table (2 * k + 1) x) (2 * k) i low 0 (λ q. omega arith)
-              ∙ getD-set-other table (2 * k + 1) i x 0 (λ q. omega arith)
-              ∙ d .front i (omega arith);
           back =
               two-set table k low x (omega (arith, d .long, d .so-far))
-              ∙ rw (s, d .back, e, same) (sym (ap doubled (drop-cons (take n table₀) k 0 (omega (arith, half, d .so-far)) ∙ ap (λ (j : ℕ). getD (take n table₀) k 0 ∷ drop j (take n table₀)) r)));
+              ∙ rw (s, d .back, e, same) (sym (ap doubled (drop-cons (take n numbers) k 0 (omega (arith, front, d .so-far)) ∙ ap (λ (j : ℕ). getD (take n numbers) k 0 ∷ drop j (take n numbers)) r)));
         }
 
-    pub doubling-end : node ≡ 0 → table ≡ doubled (take n table₀)
+    pub doubling-end : node ≡ 0 → table ≡ doubled (take n numbers)
     doubling-end z = rw z at (d .back)

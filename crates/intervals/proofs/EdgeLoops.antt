@@ -1,16 +1,15 @@
 -- The turns of a loop over an edge table: what is left of the table from edge e on. Assumes nothing.
 use mathlib.Core.Path.{_≡_, refl, sym, ap, _∙_}
 use mathlib.Core.List.{List, [], _∷_}
-use mathlib.Core.Bool.{Bool, true, false, not, _||_}
+use mathlib.Core.Bool.{Bool, true, false, _||_}
 use Prim.Native.Nat.{ℕ, zero, suc, _+_, _*_, _/_, _≤_, _<_, min}
 use native.Mathlib.Omega.{arith}
-use lib.Dec.{eqb}
 use lib.ListN.{length, getD, drop, length-take, length-drop}
 use lib.Seq.{drop-cons, getD-take}
 use borrow.Author.Tests.{eq-eqb, ne-eqb}
-use Rattle.intervals.specs.Hierarchy.{edgesOf, children, someEdge, Edge, flaggedIf, spread}
+use Rattle.intervals.specs.Hierarchy.{edgesOf, children, someEdge, Edge}
 use Rattle.intervals.specs.Hierarchy.Edge.{first, later}
-use Rattle.intervals.specs.Inner.{endsAt, Edges, improved, relax}
+use Rattle.intervals.specs.Inner.{endsAt, Edges}
 use Rattle.intervals.specs.declared.Ends.{Ends}
 
 -- the edges of the table from e on
@@ -26,6 +25,25 @@ edge-in (a ∷ b ∷ l) (suc e) h =
     let p : 2 * suc e ≡ suc (suc (2 * e)) = omega arith in
     let q : 2 * suc e + 1 ≡ suc (suc (2 * e + 1)) = omega arith in
     rw (q, p) (later (edge-in l e (omega arith)))
+
+-- what holds at each place of the table holds of each edge
+edge-all : (P : Ends → Type 0) {l : List ℕ} {p c : ℕ} → ((e : ℕ) → 2 * e + 1 < length l → P (endsAt l e)) → Edge l p c → P (record { parent = p; child = c })
+edge-all P f first = f 0 (omega arith)
+edge-all P f (later d) =
+    edge-all P
+    (λ e h.
+    let p : 2 * suc e ≡ suc (suc (2 * e)) = omega arith in
+    let q : 2 * suc e + 1 ≡ suc (suc (2 * e + 1)) = omega arith in
+    rw (q, p) at (f (suc e) (omega arith)))
+    d
+
+pub edges-all : (P : Ends → Type 0) (edges : List ℕ) (count : ℕ) {p c : ℕ} → ((e : ℕ) → e < count → P (endsAt edges e))
+    → Edge (edgesOf edges count) p c → P (record { parent = p; child = c })
+edges-all P edges count f =
+    edge-all P
+    (λ e h.
+    let b : e < count = omega (arith, simp length-take at h) in
+    rw (getD-take (2 * count) edges (2 * e) 0 (omega arith), getD-take (2 * count) edges (2 * e + 1) 0 (omega arith)) (f e b))
 
 module _ (edges : List ℕ) (count e : ℕ) (h : e < min count (length edges / 2)) where
   abbrev parent : ℕ
@@ -74,14 +92,6 @@ module _ (edges : List ℕ) (count e : ℕ) (h : e < min count (length edges / 2
       let t = ap (λ (x : Ends). p (x .parent) (x .child)) (sym at) ∙ q in
       rw t at (sym (rest-some p) ∙ inv)
 
-  pub rest-spread : (flags : List ℕ) → spread (rest edges count e) flags ≡ spread (rest edges count (e + 1)) (flaggedIf (not (eqb (getD flags parent 0) 0)) child flags)
-  unfolding spread
-  rest-spread flags = ap (λ (t : List ℕ). spread t flags) rest-cons
-
-  pub rest-relax : (up : Bool) (values : List ℕ) → relax up (rest edges count e) values ≡ relax up (rest edges count (e + 1)) (improved up parent child values)
-  unfolding relax
-  rest-relax up values = ap (λ (t : List ℕ). relax up t values) rest-cons
-
 -- a list too short for an edge
 few-children : (l : List ℕ) (node : ℕ) → length l ≤ 1 → children l node ≡ []
 unfolding children
@@ -95,18 +105,6 @@ few-some p [] h = refl
 few-some p (a ∷ []) h = refl
 few-some p (a ∷ b ∷ l) h = absurd (omega arith)
 
-few-spread : (l flags : List ℕ) → length l ≤ 1 → spread l flags ≡ flags
-unfolding spread
-few-spread [] flags h = refl
-few-spread (a ∷ []) flags h = refl
-few-spread (a ∷ b ∷ l) flags h = absurd (omega arith)
-
-few-relax : (up : Bool) (l values : List ℕ) → length l ≤ 1 → relax up l values ≡ values
-unfolding relax
-few-relax up [] values h = refl
-few-relax up (a ∷ []) values h = refl
-few-relax up (a ∷ b ∷ l) values h = absurd (omega arith)
-
 -- past the last whole edge nothing is left
 module _ (edges : List ℕ) (count e : ℕ) (h : min count (length edges / 2) ≤ e) where
   few : length (rest edges count e) ≤ 1
@@ -117,12 +115,6 @@ module _ (edges : List ℕ) (count e : ℕ) (h : min count (length edges / 2) �
 
   pub end-some : (p : ℕ → ℕ → Bool) → someEdge p (rest edges count e) ≡ false
   end-some p = few-some p (rest edges count e) few
-
-  pub end-spread : (flags : List ℕ) → spread (rest edges count e) flags ≡ flags
-  end-spread flags = few-spread (rest edges count e) flags few
-
-  pub end-relax : (up : Bool) (values : List ℕ) → relax up (rest edges count e) values ≡ values
-  end-relax up values = few-relax up (rest edges count e) values few
 
 -- the ends of an edge that a loop reads are below n
 module _ (n count : ℕ) (edges : List ℕ) (fits : Edges n count edges) (e : ℕ) (h : e < count) where

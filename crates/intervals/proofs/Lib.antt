@@ -15,7 +15,6 @@ pub mod Searches
 pub mod Onwards
 pub mod Repeats
 pub mod Passes
-pub mod Spreads
 pub mod Judges
 pub mod Walks
 pub mod Doubles

@@ -13,10 +13,6 @@ module _ (measure : List ℕ → ℕ) where
   went-most true l m w = omega arith
   went-most false l m w = omega (arith, ap measure w)
 
-  -- a change after any pass is a change
-  pub went-on : (b : Bool) (l m m′ : List ℕ) → Went measure b l m → measure m′ < measure m → measure m′ < measure l
-  went-on b l m m′ w h = omega (arith, went-most b l m w)
-
   -- what falls while passes go on
   pub went-less : (on b : Bool) (l m : List ℕ) → on ≡ true → Went measure b l m → oneIf b (measure m) < oneIf on (measure l)
   went-less true true l m o w = omega arith

@@ -1,13 +1,14 @@
 -- The flags that spread over a table of edges are those of the nodes reached. Assumes nothing.
-use mathlib.Core.Path.{_≡_, refl, sym, _∙_, subst}
+use mathlib.Core.Path.{_≡_, refl, sym, ap, _∙_, subst}
 use mathlib.Core.List.{List, [], _∷_}
-use mathlib.Core.Bool.{Bool, true, false, not}
+use mathlib.Core.Bool.{Bool, true, false, not, _||_}
 use Prim.Native.Nat.{ℕ, zero, suc, _≤_, _<_}
 use native.Mathlib.Omega.{arith}
 use lib.Dec.{eqb, ltb}
 use lib.ListN.{length, getD, set, replicate, length-set, length-replicate}
 use lib.Seq.{getD-set-same, getD-set-other}
 use borrow.Author.Tests.{eqb-true, eqb-false, eq-eqb, ne-eqb, ltb-true, ltb-false}
+use Rattle.intervals.specs.Lists.{any}
 use Rattle.intervals.specs.Inner.{zeros}
 use Rattle.intervals.specs.Hierarchy.{Edge, Reach, flaggedIf, spread, spreads, reach}
 use Rattle.intervals.specs.Hierarchy.Edge.{first, later}
@@ -120,6 +121,27 @@ same-on (a ∷ l) (b ∷ m) h f z (suc x) o =
     omega (arith, zeros-one a l d, zeros-one b m (λ e. omega arith))))
     x o
 
+-- lists that are 0 at the same places
+pub same-zeros : (l m : List ℕ) → length l ≡ length m → ((x : ℕ) → On l x → On m x) → ((x : ℕ) → On m x → On l x) → any (eqb 0) l ≡ any (eqb 0) m
+unfolding any
+same-zeros [] [] h f g = refl
+same-zeros [] (b ∷ m) h f g = absurd (omega arith)
+same-zeros (a ∷ l) [] h f g = absurd (omega arith)
+same-zeros (a ∷ l) (b ∷ m) h f g =
+    rw (same-zeros l m (omega arith) (λ x. f (suc x)) (λ x. g (suc x)))
+    (ap (_|| any (eqb 0) m) (same-zero a b (f 0) (g 0)))
+  where
+    same-zero : (a b : ℕ) → (1 ≤ a → 1 ≤ b) → (1 ≤ b → 1 ≤ a) → eqb 0 a ≡ eqb 0 b
+    same-zero zero zero f g = refl
+    same-zero zero (suc b) f g = absurd (omega (arith, g (omega arith)))
+    same-zero (suc a) zero f g = absurd (omega (arith, f (omega arith)))
+    same-zero (suc a) (suc b) f g = ne-eqb 0 (suc a) (λ e. omega arith) ∙ sym (ne-eqb 0 (suc b) (λ e. omega arith))
+
+-- a way may go on
+pub onto : {es : List ℕ} {r x y : ℕ} → Reach es r x → Reach es x y → Reach es r y
+onto self v = v
+onto (step e w) v = step e (onto w v)
+
 module _ (es : List ℕ) where
   -- each edge from a flagged node leads to one
   abbrev Stable : List ℕ → Type 0
@@ -176,15 +198,11 @@ module _ (es : List ℕ) where
         along (spreads n es m) (spreads-enough n m (length-set (replicate n 0) r 1 ∙ l) (omega (arith, zeros-set (replicate n 0) r 1 (omega arith), zeros-replicate n))) w
         (spreads-on n m r (omega (arith, getD-set-same {A = ℕ} (replicate n 0) r 1 0 (omega (arith, l)))))
 
-    snoc : {r p c : ℕ} → Reach es r p → Edge es p c → Reach es r c
-    snoc self e = step e self
-    snoc (step d w) e = step d (snoc w e)
-
     -- and only if it is
     pub reach-only : (r x : ℕ) → On (reach n es r) x → Reach es r x
     unfolding reach
     reach-only r =
-        spreads-only (Reach es r) n (set (replicate n 0) r 1) (λ p c e w. snoc w e)
+        spreads-only (Reach es r) n (set (replicate n 0) r 1) (λ p c e w. onto w (step e self))
         (λ x o. bool (eqb x r)
         (λ q. subst (λ (y : ℕ). Reach es r y) (sym (eqb-true x r q)) self)
         (λ q. absurd (omega (arith, o, getD-set-other {A = ℕ} (replicate n 0) r x 1 0 (eqb-false x r q), zero-at n x))))

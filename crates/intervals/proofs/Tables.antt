@@ -1,18 +1,20 @@
 -- Low and high in turn in one table: each is relaxed by itself, both in one pass over the edges. Assumes nothing.
-use mathlib.Core.Path.{_≡_, refl, sym, ap, _∙_}
+use mathlib.Core.Path.{_≡_, refl, sym, ap, _∙_, subst}
 use mathlib.Core.List.{List, [], _∷_}
 use mathlib.Core.Bool.{Bool, true, false, _||_}
-use Prim.Native.Nat.{ℕ, zero, suc, _+_, _*_, _≤_, _<_}
+use Prim.Native.Nat.{ℕ, zero, suc, _+_, _-_, _*_, _≤_, _<_}
 use native.Mathlib.Omega.{arith}
+use lib.Dec.{eqb}
 use lib.ListN.{length, getD, set}
+use borrow.Author.Tests.{eqb-true, eqb-false}
 use Rattle.intervals.specs.Lists.{Below}
-use Rattle.intervals.specs.Hierarchy.{edgesOf}
-use Rattle.intervals.specs.Inner.{endsAt, Edges, Went, isBetter, setIf, improved, relax, Best, lows, highs, tableWeight}
+use Rattle.intervals.specs.Hierarchy.{Edge, edgesOf}
+use Rattle.intervals.specs.Inner.{endsAt, Edges, Went, isBetter, setIf, improved, turnAt, Ok, Kept, Settled, Best, lows, highs, tableWeight}
 use Rattle.intervals.specs.declared.Ends.{Ends}
-use Rattle.intervals.proofs.Bools.{not-both}
-use Rattle.intervals.proofs.EdgeLoops.{rest, rest-relax, end-relax, turn, parent-below, child-below}
+use Rattle.intervals.proofs.Bools.{bool, not-both, or-left, or-right}
+use Rattle.intervals.proofs.EdgeLoops.{edges-all, edge-here, turn}
 use Rattle.intervals.proofs.Passes.{went-most}
-use Rattle.intervals.proofs.Relaxes.{Kept, kept-start, kept-relax, still-best, weight-set}
+use Rattle.intervals.proofs.Relaxes.{kept-start, kept-trans, kept-one, still-best, weight-set}
 
 -- ---- the lows and the highs of a table
 
@@ -121,34 +123,77 @@ went-both false b t u v w x = rw w at x
 
 -- ---- a pass
 
-pub record Relaxing (edges : List ℕ) (count : ℕ) (table₀ : List ℕ) (e : ℕ) (changed : Bool) (table : List ℕ) : Type 0 where
-  pub so-far : e ≤ count
+-- a pass takes edges of the table
+pub turn-below : (back : Bool) (count left : ℕ) → 0 < left → left ≤ count → turnAt back count left < count
+turn-below true count left h k = omega arith
+turn-below false count left h k = omega arith
+
+-- and takes each
+turn-all : (P : ℕ → Type 0) (back : Bool) (count : ℕ) → ((k : ℕ) → 0 < k → k ≤ count → P (turnAt back count k)) → (e : ℕ) → e < count → P e
+turn-all P true count f e h = let q : suc e - 1 ≡ e = omega arith in rw q at (f (suc e) (omega arith) (omega arith))
+turn-all P false count f e h = let q : count - (count - e) ≡ e = omega arith in rw q at (f (count - e) (omega arith) (omega arith))
+
+-- an edge has nothing to do
+abbrev Even : List ℕ → Ends → Type 0
+Even table ends =
+    Ok false (getD table (2 * ends .parent) 0) (getD table (2 * ends .child) 0)
+    × Ok true (getD table (2 * ends .parent + 1) 0) (getD table (2 * ends .child + 1) 0)
+
+pub record Relaxing (back : Bool) (edges : List ℕ) (count : ℕ) (table₀ : List ℕ) (left : ℕ) (changed : Bool) (table : List ℕ) : Type 0 where
+  pub so-far : left ≤ count
   pub long : length table ≡ length table₀
   pub small : Below 65536 table
-  pub lower : relax false (rest edges count e) (lows table) ≡ relax false (edgesOf edges count) (lows table₀)
-  pub higher : relax true (rest edges count e) (highs table) ≡ relax true (edgesOf edges count) (highs table₀)
+  pub lower : Kept false (edgesOf edges count) (lows table₀) (lows table)
+  pub higher : Kept true (edgesOf edges count) (highs table₀) (highs table)
   pub went : Went tableWeight changed table₀ table
+  pub even : changed ≡ false → (k : ℕ) → left < k → k ≤ count → Even table (endsAt edges (turnAt back count k))
 
-pub relaxing-start : (edges : List ℕ) (count : ℕ) (table : List ℕ) → Below 65536 table → Relaxing edges count table 0 false table
-relaxing-start edges count table b = record { so-far = omega arith; long = refl; small = b; lower = refl; higher = refl; went = refl }
+pub relaxing-start : (back : Bool) (edges : List ℕ) (count : ℕ) (table : List ℕ) → Below 65536 table → Relaxing back edges count table count false table
+relaxing-start back edges count table b =
+    record {
+      so-far = omega arith;
+      long = refl;
+      small = b;
+      lower = kept-start false (edgesOf edges count) (lows table);
+      higher = kept-start true (edgesOf edges count) (highs table);
+      went = refl;
+      even = λ f k h j. absurd (omega arith);
+    }
 
-module _ (edges : List ℕ) (count : ℕ) (table₀ : List ℕ) (fits : Edges (length (lows table₀)) count edges) (e : ℕ) (changed : Bool) (table : List ℕ)
-    (k : Relaxing edges count table₀ e changed table) where
-  module _ (h : e < count) (ends : Ends) (is : ends ≡ endsAt edges e) where
+module _ (back : Bool) (edges : List ℕ) (count : ℕ) (table₀ : List ℕ) (fits : Edges (length (lows table₀)) count edges) (left : ℕ) (changed : Bool) (table : List ℕ)
+    (k : Relaxing back edges count table₀ left changed table) where
+  fits-now : Edges (length (lows table)) count edges
+  fits-now = rw (k .lower .long) fits
+
+  module _ (h : 0 < left) (e : ℕ) (at : e ≡ turnAt back count left) (ends : Ends) (is : ends ≡ endsAt edges e) where
+    -- the edge that the turn reads
+    here : Edge (edgesOf edges count) (ends .parent) (ends .child)
+    here = rw is (edge-here edges count e (turn (length (lows table)) count edges fits-now e (rw at (turn-below back count left h (k .so-far)))))
+
     here-parent : ends .parent < length (lows table)
-    here-parent =
-        omega (arith, ap (λ (x : Ends). x .parent) is, parent-below (length (lows table₀)) count edges fits e h, k .long, lows-long table, lows-long table₀)
+    here-parent = fits-now .below _ _ here .0
 
     here-child : ends .child < length (lows table)
-    here-child =
-        omega (arith, ap (λ (x : Ends). x .child) is, child-below (length (lows table₀)) count edges fits e h, k .long, lows-long table, lows-long table₀)
+    here-child = fits-now .below _ _ here .1
 
     pub in-table : (2 * ends .parent + 1 < length table) × (2 * ends .child + 1 < length table)
     in-table = (omega (arith, here-parent, lows-long table), omega (arith, here-child, lows-long table))
 
-    -- what is left, by the edge that the turn reads
-    turned : (up : Bool) (values : List ℕ) → relax up (rest edges count (e + 1)) (improved up (ends .parent) (ends .child) values) ≡ relax up (rest edges count e) values
-    turned up values = rw is (sym (rest-relax edges count e (turn (length (lows table₀)) count edges fits e h) up values))
+    -- where nothing changed, this edge has nothing to do, nor has one before
+    even-more : (table′ table″ : List ℕ) (low high : Bool)
+        → low ≡ isBetter false (getD table (2 * ends .child) 0) (getD table (2 * ends .parent) 0)
+        → high ≡ isBetter true (getD table′ (2 * ends .child + 1) 0) (getD table′ (2 * ends .parent + 1) 0)
+        → Went tableWeight low table table′ → Went tableWeight high table′ table″
+        → ((changed || low) || high) ≡ false → (j : ℕ) → left - 1 < j → j ≤ count → Even table″ (endsAt edges (turnAt back count j))
+    even-more table′ table″ low high la ha w x f j a b =
+        let f′ = or-left (changed || low) high f in
+        let l = or-right changed low f′ in
+        let g = or-right (changed || low) high f in
+        let s : table″ ≡ table′ = rw g at x in
+        let s′ : table′ ≡ table = rw l at w in
+        bool (eqb j left)
+        (λ t. subst (Even table″) (is ∙ ap (endsAt edges) (at ∙ ap (turnAt back count) (sym (eqb-true j left t)))) (rw s (rw s′ (sym la ∙ l), sym ha ∙ g)))
+        (λ t. let d = eqb-false j left t in rw (s ∙ s′) (k .even (or-left changed low f′) j (omega (arith, d)) b))
 
     pub relaxing-more : (table′ table″ : List ℕ) (low high : Bool)
         → low ≡ isBetter false (getD table (2 * ends .child) 0) (getD table (2 * ends .parent) 0)
@@ -156,7 +201,7 @@ module _ (edges : List ℕ) (count : ℕ) (table₀ : List ℕ) (fits : Edges (l
         → high ≡ isBetter true (getD table′ (2 * ends .child + 1) 0) (getD table′ (2 * ends .parent + 1) 0)
         → table″ ≡ improved true (2 * ends .parent + 1) (2 * ends .child + 1) table′
         → Below 65536 table′ → Below 65536 table″ → length table′ ≡ length table → length table″ ≡ length table′
-        → Relaxing edges count table₀ (e + 1) ((changed || low) || high) table″
+        → Relaxing back edges count table₀ (left - 1) ((changed || low) || high) table″
     relaxing-more table′ table″ low high la lt ha ht small′ small″ long′ long″ =
         let hp : ends .parent < length (lows table′) = omega (arith, here-parent, lows-long table, lows-long table′, long′) in
         let hc : ends .child < length (lows table′) = omega (arith, here-child, lows-long table, lows-long table′, long′) in
@@ -167,21 +212,26 @@ module _ (edges : List ℕ) (count : ℕ) (table₀ : List ℕ) (fits : Edges (l
         let x : Went tableWeight high table′ table″ =
         rw (ht, ← ha) (high-went table′ (ends .parent) (ends .child) hp hc high (getD table′ (2 * ends .child + 1) 0) (sym ha) (small′ (2 * ends .child + 1))) in
         record {
-          so-far = omega arith;
+          so-far = omega (arith, k .so-far);
           long = long″ ∙ long′ ∙ k .long;
           small = small″;
-          lower = ap (relax false (rest edges count (e + 1))) (ap lows ht ∙ b .0 ∙ ap lows lt ∙ a .0) ∙ turned false (lows table) ∙ k .lower;
+          lower =
+              rw (ap lows ht ∙ b .0 ∙ ap lows lt ∙ a .0)
+              (kept-one false (edgesOf edges count) (lows table₀) (lows table) (ends .parent) (ends .child) here (k .lower));
           higher =
-              ap (relax true (rest edges count (e + 1))) (ap highs ht ∙ b .1 ∙ ap (improved true (ends .parent) (ends .child)) (ap highs lt ∙ a .1))
-              ∙ turned true (highs table) ∙ k .higher;
+              rw (ap highs ht ∙ b .1 ∙ ap (improved true (ends .parent) (ends .child)) (ap highs lt ∙ a .1))
+              (kept-one true (edgesOf edges count) (highs table₀) (highs table) (ends .parent) (ends .child) here (k .higher));
           went = went-both (changed || low) high table₀ table′ table″ (went-both changed low table₀ table table′ (k .went) w) x;
+          even = even-more table′ table″ low high la ha w x;
         }
 
-  pub relaxing-end : count ≤ e → (lows table ≡ relax false (edgesOf edges count) (lows table₀)) × (highs table ≡ relax true (edgesOf edges count) (highs table₀))
-  relaxing-end h = (
-    sym (end-relax edges count e (omega (arith, fits .table)) false (lows table)) ∙ k .lower,
-    sym (end-relax edges count e (omega (arith, fits .table)) true (highs table)) ∙ k .higher,
-  )
+  pub relaxing-end : left ≤ 0 → changed ≡ false → Settled false (edgesOf edges count) (lows table) × Settled true (edgesOf edges count) (highs table)
+  relaxing-end h f =
+      let all : (p c : ℕ) → Edge (edgesOf edges count) p c → Even table (record { parent = p; child = c }) =
+      λ p c. edges-all (Even table) edges count (turn-all (λ e. Even table (endsAt edges e)) back count (λ j a b. k .even f j (omega arith) b)) in (
+        λ p c d. let b = fits-now .below p c d in rw (lows-at table p (b .0), lows-at table c (b .1)) (all p c d .0),
+        λ p c d. let b = fits-now .below p c d in rw (highs-at table p (b .0), highs-at table c (b .1)) (all p c d .1),
+      )
 
 -- ---- the passes
 
@@ -189,30 +239,26 @@ pub record Settling (es table₀ : List ℕ) (on : Bool) (table : List ℕ) : Ty
   pub long : length table ≡ length table₀
   pub lower : Kept false es (lows table₀) (lows table)
   pub higher : Kept true es (highs table₀) (highs table)
-  pub done : on ≡ false → (relax false es (lows table) ≡ lows table) × (relax true es (highs table) ≡ highs table)
+  pub done : on ≡ false → Settled false es (lows table) × Settled true es (highs table)
 
 pub settling-start : (es table : List ℕ) → Settling es table true table
 settling-start es table =
     record { long = refl; lower = kept-start false es (lows table); higher = kept-start true es (highs table); done = λ f. not-both true refl f }
 
-module _ (es table₀ : List ℕ) (on b : Bool) (table table′ : List ℕ) (s : Settling es table₀ on table) where
-  pub settling-more : length table′ ≡ length table → lows table′ ≡ relax false es (lows table) → highs table′ ≡ relax true es (highs table) → Went tableWeight b table table′
-      → Settling es table₀ b table′
-  settling-more n l h w =
-      record {
-        long = n ∙ s .long;
-        lower = rw l (kept-relax false es (lows table₀) (lows table) (s .lower));
-        higher = rw h (kept-relax true es (highs table₀) (highs table) (s .higher));
-        done = still b w;
-      }
-    where
-      still : (b : Bool) → Went tableWeight b table table′ → b ≡ false → (relax false es (lows table′) ≡ lows table′) × (relax true es (highs table′) ≡ highs table′)
-      still true w f = not-both true refl f
-      still false w f = (ap (λ (t : List ℕ). relax false es (lows t)) w ∙ sym l, ap (λ (t : List ℕ). relax true es (highs t)) w ∙ sym h)
+pub settling-more : (es table₀ : List ℕ) (on b : Bool) (table table′ : List ℕ) → Settling es table₀ on table → length table′ ≡ length table
+    → Kept false es (lows table) (lows table′) → Kept true es (highs table) (highs table′) → (b ≡ false → Settled false es (lows table′) × Settled true es (highs table′))
+    → Settling es table₀ b table′
+settling-more es table₀ on b table table′ s n l h d =
+    record {
+      long = n ∙ s .long;
+      lower = kept-trans false es (lows table₀) (lows table) (lows table′) (s .lower) l;
+      higher = kept-trans true es (highs table₀) (highs table) (highs table′) (s .higher) h;
+      done = d;
+    }
 
-pub settling-end : (count : ℕ) (edges table₀ table : List ℕ) (on : Bool) → Edges (length (lows table₀)) count edges → Settling (edgesOf edges count) table₀ on table → on ≡ false
-    → Best false (edgesOf edges count) (lows table₀) (lows table) × Best true (edgesOf edges count) (highs table₀) (highs table)
-settling-end count edges table₀ table on fits s f = (
-  still-best false (edgesOf edges count) (lows table₀) (lows table) (λ p c e. fits .below p c e .0) (s .lower) (s .done f .0),
-  still-best true (edgesOf edges count) (highs table₀) (highs table) (λ p c e. omega (arith, fits .below p c e .0, highs-long table₀)) (s .higher) (s .done f .1),
+pub settling-end : (es table₀ : List ℕ) (on : Bool) (table : List ℕ) → Settling es table₀ on table → on ≡ false
+    → Best false es (lows table₀) (lows table) × Best true es (highs table₀) (highs table)
+settling-end es table₀ on table s f = (
+  still-best false es (lows table₀) (lows table) (s .lower) (s .done f .0),
+  still-best true es (highs table₀) (highs table) (s .higher) (s .done f .1),
 )

@@ -9,7 +9,7 @@ use lib.ListN.{length, getD, set, replicate, length-set, length-replicate}
 use borrow.Author.Tests.{eqb-true, eq-eqb, ne-eqb}
 use Rattle.intervals.specs.Hierarchy.{edgesOf, children}
 use Rattle.intervals.specs.Numbering.{Walk, at, marked, numbered, meet, visit, inside, walk, numbering}
-use Rattle.intervals.specs.Inner.{zeros, endsAt, Edges, Ready, Fresh}
+use Rattle.intervals.specs.Inner.{zeros, endsAt, Edges, Ready, Fresh, lastMarks}
 use Rattle.intervals.specs.declared.Ends.{Ends}
 use Rattle.intervals.proofs.Bools.{bool}
 use Rattle.intervals.proofs.Marks.{getD-any, zeros-set, zeros-fall, zeros-replicate, zero-at}
@@ -229,6 +229,9 @@ module _ (n count : ℕ) (edges numbers₀ marks numbers : List ℕ) (f : Fresh 
         room = omega (arith, f .few, unseen, ap zeros unnumbered ∙ zeros-replicate n);
       }
 
-  pub fresh-end : (t : Walk) → ((k : ℕ) → zeros marks ≤ k → t ≡ walk k (edgesOf edges count) 0 (at 1 marks numbers)) → t .numbers ≡ numbering n (edgesOf edges count)
-  unfolding numbering
-  fresh-end t q = ap (λ (w : Walk). w .numbers) (q n (omega (arith, unseen))) ∙ rw (m, unnumbered) refl
+  pub fresh-end : (t : Walk) → ((k : ℕ) → zeros marks ≤ k → t ≡ walk k (edgesOf edges count) 0 (at 1 marks numbers))
+      → (t .marks ≡ lastMarks n (edgesOf edges count)) × (t .numbers ≡ numbering n (edgesOf edges count))
+  unfolding lastMarks numbering
+  fresh-end t q =
+      let e = q n (omega (arith, unseen)) in
+      (ap (λ (w : Walk). w .marks) e ∙ rw (m, unnumbered) refl, ap (λ (w : Walk). w .numbers) e ∙ rw (m, unnumbered) refl)

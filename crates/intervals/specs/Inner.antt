@@ -5,9 +5,10 @@ use mathlib.Core.Bool.{Bool, true, false, _&&_, _||_}
 use mathlib.Core.Option.{Option, none, some}
 use Prim.Native.Nat.{ℕ, suc, _+_, _-_, _*_, _<_, _≤_}
 use lib.Dec.{eqb, ltb}
-use lib.ListN.{length, getD, set}
+use lib.ListN.{length, getD, set, take, replicate}
 use Rattle.intervals.specs.Lists.{any}
 use Rattle.intervals.specs.Hierarchy.{Edge, Reach, edgesOf, children, Legal}
+use Rattle.intervals.specs.Numbering.{at, walk, numbering}
 use Rattle.intervals.specs.Cover.{intervalAt, contains, width, firstWithin, stepOr}
 use Rattle.intervals.specs.declared.Ends.{Ends}
 use Rattle.intervals.specs.declared.Interval.{Interval}
@@ -62,6 +63,10 @@ pub record Fresh (n count : ℕ) (edges numbers : List ℕ) : Type 0 where
   pub alike : length numbers ≡ n
   pub ends : Edges n count edges
 
+-- the marks when the walk of n nodes has ended: 0 of a node that it has not seen
+unfoldable pub lastMarks : ℕ → List ℕ → List ℕ
+lastMarks n es = (walk n es 0 (at 1 (replicate n 0) (replicate n 0))) .marks
+
 -- x is better than y: greater where up is true, less where it is false
 abbrev pub isBetter : Bool → ℕ → ℕ → Bool
 isBetter true x y = ltb y x
@@ -81,17 +86,30 @@ setIf false l i v = l
 abbrev pub improved : Bool → ℕ → ℕ → List ℕ → List ℕ
 improved up to from l = setIf (isBetter up (getD l from 0) (getD l to 0)) l to (getD l from 0)
 
--- one pass over the edges: a parent takes its child's value where that is better
-unfoldable pub relax : Bool → List ℕ → List ℕ → List ℕ
-relax up [] l = l
-relax up (parent ∷ []) l = l
-relax up (parent ∷ child ∷ es) l = relax up es (improved up parent child l)
+-- the edge that a pass takes with so many left: back from the last of the table, or from its first on
+abbrev pub turnAt : Bool → ℕ → ℕ → ℕ
+turnAt true count left = left - 1
+turnAt false count left = count - left
+
+-- x is as good as y: y is not better
+abbrev pub Ok : Bool → ℕ → ℕ → Type 0
+Ok up x y = isBetter up y x ≡ false
 
 -- v is the value of a node that the given one reaches
 pub record From (es values : List ℕ) (node v : ℕ) : Type 0 where
   pub of : ℕ
   pub way : Reach es node of
   pub same : v ≡ getD values of 0
+
+-- what a pass over the edges keeps: each value is one of those that its node reached, and as good as the node's own
+pub record Kept (up : Bool) (es before after : List ℕ) : Type 0 where
+  pub long : length after ≡ length before
+  pub from : (node : ℕ) → From es before node (getD after node 0)
+  pub good : (node : ℕ) → Ok up (getD after node 0) (getD before node 0)
+
+-- no edge has anything left to do: each parent is as good as its child
+abbrev pub Settled : Bool → List ℕ → List ℕ → Type 0
+Settled up es values = (parent child : ℕ) → Edge es parent child → Ok up (getD values parent 0) (getD values child 0)
 
 -- each value is one of those that its node reaches, and none of them is better
 pub record Best (up : Bool) (es before after : List ℕ) : Type 0 where
@@ -134,12 +152,13 @@ unfoldable pub doubled : List ℕ → List ℕ
 doubled [] = []
 doubled (x ∷ xs) = orMost x ∷ x ∷ doubled xs
 
--- what writing the intervals of n nodes asks
-pub record Writable (n count : ℕ) (edges table marks : List ℕ) : Type 0 where
+-- what writing the intervals of n nodes asks: their numbers stand first
+pub record Writable (n count : ℕ) (edges numbers table : List ℕ) : Type 0 where
   pub legal : Legal n edges count
   pub whole : 2 * count ≤ length edges
-  pub table-long : length table ≡ 2 * n
-  pub marks-long : length marks ≡ n
+  pub enough : n ≤ length numbers
+  pub numbered : take n numbers ≡ numbering n (edgesOf edges count)
+  pub long : length table ≡ 2 * n
 
 -- where the search steps from a node: to the node itself where no child leads on
 abbrev pub stepFrom : List ℕ → Interval → List ℕ → ℕ → ℕ

@@ -5,14 +5,14 @@ ghost use mathlib.Core.Bool.{true, false, _&&_};
 ghost use Prim.Native.Nat.{ℕ, _+_, _*_, _/_, _<_, _≤_, min, max};
 ghost use lib.Dec.{eqb, ltb};
 ghost use lib.ListN.{length, getD, take, replicate};
-ghost use Rattle.intervals.specs.Lists.{any, over, Below};
+ghost use Rattle.intervals.specs.Lists.{any, over};
 ghost use Rattle.intervals.specs.Answer.{refusal};
-ghost use Rattle.intervals.specs.Hierarchy.{edgesOf, children, someEdge, spread, reach, edgeWrong, edgeTwice, someUnreached, hierarchyChecks};
+ghost use Rattle.intervals.specs.Hierarchy.{edgesOf, children, someEdge, edgeWrong, edgeTwice, someUnreached, hierarchyChecks};
 ghost use Rattle.intervals.specs.Numbering.{at as walkAt, walk as walked, numbering};
 ghost use Rattle.intervals.specs.Intervals.{intervalTable};
 ghost use Rattle.intervals.specs.Build.{buildStep, buildMeaning};
 ghost use Rattle.intervals.specs.Cover.{intervalAt, callInterval, contains as containing, width as widthOf, firstWithin, stepOr, coverOfInterval, coverOf};
-ghost use Rattle.intervals.specs.Inner.{endsAt, Edges, repeats, Went, zeros, numberOf, Ready, Fresh, isBetter, improved, relax, Best, lows, highs, tableWeight, orMost, doubled, Writable, stepFrom, Stays, led, Onward};
+ghost use Rattle.intervals.specs.Inner.{endsAt, Edges, repeats, Went, zeros, numberOf, Ready, Fresh, lastMarks, isBetter, improved, turnAt, Kept, Settled, Best, lows, highs, tableWeight, orMost, doubled, Writable, stepFrom, Stays, led, Onward};
 
 // The interval of a node or of a call, from its low to its high.
 pub struct Interval {
@@ -92,8 +92,31 @@ fn edge_wrong(n: usize, parent: usize, child: usize) -> bool
     parent == child
 }
 
-// Whether some edge is none that n nodes may have.
-pub fn edges_wrong(n: usize, edges: &[u16], count: usize) -> bool
+// Whether an edge is none that n nodes may have, of ends as the table has them. All four tests are made, so that many edges are tested at once.
+fn ends_wrong(n: u16, parent: u16, child: u16) -> bool
+    ensures { λ r. ⌜ r ≡ edgeWrong n parent child ⌝ }
+{
+    (n <= parent) | (n <= child) | (child == 0) | (parent == child)
+}
+
+// Whether some edge is none that n nodes may have, for an n that fits what an end fits.
+fn few_edges_wrong(n: u16, edges: &[u16], count: usize) -> bool
+    ensures { λ r. ⌜ r ≡ someEdge (edgeWrong n) (edgesOf (now (edges .entry)) count) ⌝ }
+{
+    let whole = whole_edges(edges, count);
+    let mut wrong = false;
+    let mut e = 0;
+    while e < whole {
+        let parent = edges[2 * e];
+        let child = edges[2 * e + 1];
+        wrong = wrong | ends_wrong(n, parent, child);
+        e += 1;
+    }
+    wrong
+}
+
+// The same for any n.
+fn many_edges_wrong(n: usize, edges: &[u16], count: usize) -> bool
     ensures { λ r. ⌜ r ≡ someEdge (edgeWrong n) (edgesOf (now (edges .entry)) count) ⌝ }
 {
     let whole = whole_edges(edges, count);
@@ -106,6 +129,16 @@ pub fn edges_wrong(n: usize, edges: &[u16], count: usize) -> bool
         e += 1;
     }
     false
+}
+
+// Whether some edge is none that n nodes may have.
+pub fn edges_wrong(n: usize, edges: &[u16], count: usize) -> bool
+    ensures { λ r. ⌜ r ≡ someEdge (edgeWrong n) (edgesOf (now (edges .entry)) count) ⌝ }
+{
+    if n < 65536 {
+        return few_edges_wrong(n as u16, edges, count);
+    }
+    many_edges_wrong(n, edges, count)
 }
 
 // Sets each byte to 0.
@@ -155,44 +188,6 @@ fn edge_twice(edges: &[u16], count: usize, flags: &mut [u8]) -> bool
     false
 }
 
-// One pass over the edges: where the parent is flagged, the child is. Says whether a flag is new.
-fn spread_once(edges: &[u16], count: usize, flags: &mut [u8]) -> bool
-    requires { ⌜ Edges (length (now flags)) count (now edges) ⌝ }
-    requires { ⌜ Below 2 (now flags) ⌝ }
-    ensures { λ _. ⌜ now (flags .exit) ≡ spread (edgesOf (now (edges .entry)) count) (now (flags .entry)) ⌝ }
-    ensures { λ r. ⌜ Went zeros r (now (flags .entry)) (now (flags .exit)) ⌝ }
-{
-    let mut changed = false;
-    let mut e = 0;
-    while e < count {
-        let ends = edge_at(edges, e);
-        let parent = ends.parent;
-        let child = ends.child;
-        e += 1;
-        if flags[parent] != 0 {
-            if flags[child] == 0 {
-                flags[child] = 1;
-                changed = true;
-            }
-        }
-    }
-    changed
-}
-
-// Flags the nodes that the root reaches.
-fn flag_reached(edges: &[u16], count: usize, flags: &mut [u8])
-    requires { ⌜ Edges (length (now flags)) count (now edges) ⌝ }
-    requires { ⌜ 1 ≤ length (now flags) ⌝ }
-    ensures { λ _. ⌜ now (flags .exit) ≡ reach (length (now (flags .entry))) (edgesOf (now (edges .entry)) count) 0 ⌝ }
-{
-    clear(flags);
-    flags[0] = 1;
-    let mut on = true;
-    while on {
-        on = spread_once(edges, count, flags);
-    }
-}
-
 // Whether some byte is 0.
 fn some_zero(bytes: &[u8]) -> bool
     ensures { λ r. ⌜ r ≡ any (eqb 0) (now (bytes .entry)) ⌝ }
@@ -205,43 +200,6 @@ fn some_zero(bytes: &[u8]) -> bool
         i += 1;
     }
     false
-}
-
-// Whether the root does not reach some node: 9 of the table of refusals.
-fn some_unreached(edges: &[u16], count: usize, flags: &mut [u8]) -> bool
-    requires { ⌜ Edges (length (now flags)) count (now edges) ⌝ }
-    requires { ⌜ 1 ≤ length (now flags) ⌝ }
-    ensures { λ r. ⌜ r ≡ someUnreached (length (now (flags .entry))) (edgesOf (now (edges .entry)) count) ⌝ }
-{
-    flag_reached(edges, count, flags);
-    some_zero(flags)
-}
-
-// The lowest refusal from 5 to 9 that applies, or 0 where the hierarchy is legal.
-fn judge(n: usize, edges: &[u16], count: usize, flags: &mut [u8]) -> u8
-    requires { ⌜ 2 * count ≤ length (now edges) ⌝ }
-    requires { ⌜ length (now flags) ≡ 256 ⌝ }
-    ensures { λ r. ⌜ r ≡ numberOf (refusal (hierarchyChecks n (now (edges .entry)) count)) ⌝ }
-{
-    if n == 0 {
-        return 5;
-    }
-    if 256 < n {
-        return 5;
-    }
-    if 1024 < count {
-        return 6;
-    }
-    if edges_wrong(n, edges, count) {
-        return 7;
-    }
-    if edge_twice(edges, count, &mut flags[..n]) {
-        return 8;
-    }
-    if some_unreached(edges, count, &mut flags[..n]) {
-        return 9;
-    }
-    0
 }
 
 // Walks an unseen node, and returns the next number.
@@ -298,11 +256,51 @@ fn clear_numbers(numbers: &mut [u16])
 // Numbers the nodes by a walk from the root.
 fn number(edges: &[u16], count: usize, marks: &mut [u8], numbers: &mut [u16])
     requires { ⌜ Fresh (length (now marks)) count (now edges) (now numbers) ⌝ }
+    ensures { λ _. ⌜ now (marks .exit) ≡ lastMarks (length (now (marks .entry))) (edgesOf (now (edges .entry)) count) ⌝ }
     ensures { λ _. ⌜ now (numbers .exit) ≡ numbering (length (now (marks .entry))) (edgesOf (now (edges .entry)) count) ⌝ }
 {
     clear(marks);
     clear_numbers(numbers);
     walk(0, 1, edges, count, marks, numbers);
+}
+
+// Whether the root does not reach some node: 9 of the table of refusals. The numbering walk sees just the nodes that the root reaches.
+fn some_unreached(edges: &[u16], count: usize, marks: &mut [u8], numbers: &mut [u16]) -> bool
+    requires { ⌜ Fresh (length (now marks)) count (now edges) (now numbers) ⌝ }
+    ensures { λ r. ⌜ r ≡ someUnreached (length (now (marks .entry))) (edgesOf (now (edges .entry)) count) ⌝ }
+    ensures { λ _. ⌜ now (numbers .exit) ≡ numbering (length (now (marks .entry))) (edgesOf (now (edges .entry)) count) ⌝ }
+{
+    number(edges, count, marks, numbers);
+    some_zero(marks)
+}
+
+// The lowest refusal from 5 to 9 that applies, or 0 where the hierarchy is legal; its nodes are numbered then.
+fn judge(n: usize, edges: &[u16], count: usize, flags: &mut [u8], numbers: &mut [u16]) -> u8
+    requires { ⌜ 2 * count ≤ length (now edges) ⌝ }
+    requires { ⌜ length (now flags) ≡ 256 ⌝ }
+    requires { ⌜ length (now numbers) ≡ 256 ⌝ }
+    ensures { λ r. ⌜ r ≡ numberOf (refusal (hierarchyChecks n (now (edges .entry)) count)) ⌝ }
+    ensures { λ r. ⌜ (r ≡ 0 → take n (now (numbers .exit)) ≡ numbering n (edgesOf (now (edges .entry)) count)) ⌝ }
+{
+    if n == 0 {
+        return 5;
+    }
+    if 256 < n {
+        return 5;
+    }
+    if 1024 < count {
+        return 6;
+    }
+    if edges_wrong(n, edges, count) {
+        return 7;
+    }
+    if edge_twice(edges, count, &mut flags[..n]) {
+        return 8;
+    }
+    if some_unreached(edges, count, &mut flags[..n], &mut numbers[..n]) {
+        return 9;
+    }
+    0
 }
 
 // A number, with the largest u16 in the place of none.
@@ -315,16 +313,16 @@ fn or_most(number: u16) -> u16
     number
 }
 
-// Spreads the numbers of the first half over the whole table, for each node what low and high start from. Goes down, so that no number
-// is lost before it is read.
-fn interleave(n: usize, table: &mut [u16])
+// Writes what low and high start from for each of n nodes, its number.
+fn interleave(n: usize, numbers: &[u16], table: &mut [u16])
+    requires { ⌜ n ≤ length (now numbers) ⌝ }
     requires { ⌜ length (now table) ≡ 2 * n ⌝ }
-    ensures { λ _. ⌜ now (table .exit) ≡ doubled (take n (now (table .entry))) ⌝ }
+    ensures { λ _. ⌜ now (table .exit) ≡ doubled (take n (now (numbers .entry))) ⌝ }
 {
     let mut node = n;
     while 0 < node {
         node -= 1;
-        let number = table[node];
+        let number = numbers[node];
         table[2 * node + 1] = number;
         table[2 * node] = or_most(number);
     }
@@ -355,20 +353,34 @@ fn improve(up: bool, to: usize, from: usize, table: &mut [u16]) -> bool
     false
 }
 
-// One pass over the edges: a parent takes its child's low where that is less, and its high where that is greater. Says whether any did.
-fn relax_once(edges: &[u16], count: usize, table: &mut [u16]) -> bool
+// The edge that a pass takes with so many left: back from the last of the table, or from its first on.
+fn turn_at(back: bool, count: usize, left: usize) -> usize
+    requires { ⌜ 1 ≤ left ⌝ }
+    requires { ⌜ left ≤ count ⌝ }
+    ensures { λ r. ⌜ r ≡ turnAt back count left ⌝ }
+{
+    if back {
+        return left - 1;
+    }
+    count - left
+}
+
+// One pass over the edges, back or on: a parent takes its child's low where that is less, and its high where that is greater. Says whether any did.
+fn relax_once(back: bool, edges: &[u16], count: usize, table: &mut [u16]) -> bool
     requires { ⌜ Edges (length (lows (now table))) count (now edges) ⌝ }
-    ensures { λ _. ⌜ lows (now (table .exit)) ≡ relax false (edgesOf (now (edges .entry)) count) (lows (now (table .entry))) ⌝ }
-    ensures { λ _. ⌜ highs (now (table .exit)) ≡ relax true (edgesOf (now (edges .entry)) count) (highs (now (table .entry))) ⌝ }
+    ensures { λ _. ⌜ Kept false (edgesOf (now (edges .entry)) count) (lows (now (table .entry))) (lows (now (table .exit))) ⌝ }
+    ensures { λ _. ⌜ Kept true (edgesOf (now (edges .entry)) count) (highs (now (table .entry))) (highs (now (table .exit))) ⌝ }
     ensures { λ r. ⌜ Went tableWeight r (now (table .entry)) (now (table .exit)) ⌝ }
+    ensures { λ r. ⌜ (r ≡ false → Settled false (edgesOf (now (edges .entry)) count) (lows (now (table .exit))) × Settled true (edgesOf (now (edges .entry)) count) (highs (now (table .exit)))) ⌝ }
 {
     let mut changed = false;
-    let mut e = 0;
-    while e < count {
+    let mut left = count;
+    while 0 < left {
+        let e = turn_at(back, count, left);
         let ends = edge_at(edges, e);
         let to = 2 * ends.parent;
         let from = 2 * ends.child;
-        e += 1;
+        left -= 1;
         let low = improve(false, to, from, table);
         let high = improve(true, to + 1, from + 1, table);
         changed = changed | low | high;
@@ -376,25 +388,27 @@ fn relax_once(edges: &[u16], count: usize, table: &mut [u16]) -> bool
     changed
 }
 
-// Gives each node the least low and the greatest high that it reaches.
+// Gives each node the least low and the greatest high that it reaches. Passes back and on take turns, since the one or the other needs many turns
+// where the table's order is against it.
 fn settle(edges: &[u16], count: usize, table: &mut [u16])
     requires { ⌜ Edges (length (lows (now table))) count (now edges) ⌝ }
     ensures { λ _. ⌜ Best false (edgesOf (now (edges .entry)) count) (lows (now (table .entry))) (lows (now (table .exit))) ⌝ }
     ensures { λ _. ⌜ Best true (edgesOf (now (edges .entry)) count) (highs (now (table .entry))) (highs (now (table .exit))) ⌝ }
 {
+    let mut back = true;
     let mut on = true;
     while on {
-        on = relax_once(edges, count, table);
+        on = relax_once(back, edges, count, table);
+        back = !back;
     }
 }
 
-// Writes the intervals of n nodes of a legal hierarchy.
-fn write_intervals(n: usize, edges: &[u16], count: usize, table: &mut [u16], marks: &mut [u8])
-    requires { ⌜ Writable n count (now edges) (now table) (now marks) ⌝ }
+// Writes the intervals of n nodes of a legal hierarchy, by their numbers.
+fn write_intervals(n: usize, edges: &[u16], count: usize, numbers: &[u16], table: &mut [u16])
+    requires { ⌜ Writable n count (now edges) (now numbers) (now table) ⌝ }
     ensures { λ _. ⌜ now (table .exit) ≡ intervalTable n (edgesOf (now (edges .entry)) count) ⌝ }
 {
-    number(edges, count, marks, &mut table[..n]);
-    interleave(n, table);
+    interleave(n, numbers, table);
     settle(edges, count, table);
 }
 
@@ -427,12 +441,13 @@ pub fn build(
     if scratch.len() < 2048 {
         return BuildAnswer::Refused(1);
     }
-    let refusal = judge(n, edges, count, &mut scratch[..256]);
+    let mut numbers = [0u16; 256];
+    let refusal = judge(n, edges, count, &mut scratch[..256], &mut numbers);
     if refusal != 0 {
         wipe(scratch);
         return BuildAnswer::Refused(refusal);
     }
-    write_intervals(n, edges, count, &mut places[..2 * n], &mut scratch[..n]);
+    write_intervals(n, edges, count, &numbers, &mut places[..2 * n]);
     wipe(scratch);
     BuildAnswer::Built
 }

@@ -1,13 +1,16 @@
--- `some_interval_wrong` meets its contract: no interval passed so far is wrong. Assumes nothing.
-use mathlib.Core.Path.{_≡_, refl, sym, _∙_}
-use mathlib.Core.Bool.{Bool, false}
+-- `some_interval_wrong` meets its contract: what was found so far is whether an interval passed is wrong. Assumes nothing.
+use mathlib.Core.Path.{_≡_, refl, ap, _∙_}
+use mathlib.Core.Bool.{Bool}
 use mathlib.Core.List.{List}
-use Prim.Native.Nat.{ℕ, _-_, _≤_}
+use Prim.Native.Nat.{ℕ, _+_, _-_, _*_, _≤_}
+use native.Mathlib.Omega.{arith}
+use lib.ListN.{getD}
 use borrow.Author.Needs.{needs}
 use Rattle.intervals.specs.Lists.{anyBelow}
-use Rattle.intervals.proofs.Bounded.{any-next, any-stop, any-end}
+use Rattle.intervals.specs.declared.Interval.{Interval}
 use Rattle.desk.specs.Steps.{intervalWrong}
-use Rattle.desk.specs.Inner.{spanned}
+use Rattle.desk.specs.Inner.{spanned, outside}
+use Rattle.desk.proofs.Judging.{any-one-more}
 use Rattle.desk.proofs.some_interval_wrong.Statement.{statement}
 use Rattle.desk.proofs.some_interval_wrong.Tie as tie
 
@@ -15,26 +18,29 @@ abbrev test : List ℕ → ℕ → Bool
 test intervals k = intervalWrong (spanned 0 intervals) k
 
 abbrev Inv-loop : tie.InvT-loop
-Inv-loop n intervals i₀ i = (i ≤ n) × (anyBelow i (test intervals) ≡ false)
+Inv-loop n intervals root wrong₀ i₀ wrong i = (i ≤ n) × (wrong ≡ anyBelow i (test intervals))
 
 abbrev μ-loop : tie.MeasureT-loop
-μ-loop n intervals i₀ i = n - i
+μ-loop n intervals root wrong₀ i₀ wrong i = n - i
 
 loop-holds : tie.Need-loop-holds Inv-loop μ-loop
 unfolding anyBelow
 loop-holds c = (search needs, refl)
 
-returns : tie.Need-returns Inv-loop μ-loop
-returns c = let a = c .before .before .before in let s = a .before .before in
-    sym (any-stop (test (s .args .intervals .now)) (s .args .n) (a .loop .i) (c .before .before .loop-test .taken) (sym (c .before .interval-wrong .ensures) ∙ c .if1 .taken))
+-- what was tested is this node's interval, and node 0's
+here : (c : tie.After-interval-wrong Inv-loop μ-loop) → c .interval-wrong .result ≡ test (c .before .before .before .before .before .before .before .args .intervals .now) (c .before .before .before .before .loop .i)
+here c = let r = c .before .before .before .before .before in let s = r .before .before in let i = c .before .before .before .before .loop .i in
+    c .interval-wrong .ensures
+    ∙ ap (λ (x : Interval). outside (getD (s .args .intervals .now) (2 * i) 0) (getD (s .args .intervals .now) (2 * i + 1) 0) (x .low) (x .high)) (r .interval-at .ensures)
 
 loop-again : tie.Need-loop-again Inv-loop μ-loop
-loop-again c = let a = c .before .before .before in let s = a .before .before in
-    (search needs, any-next (test (s .args .intervals .now)) (a .loop .i) (a .loop .inv .1) (sym (c .before .interval-wrong .ensures) ∙ c .if1 .left))
+loop-again c = let a = c .before .before .before .before in let s = a .before .before .before in
+    (search needs, any-one-more (test (s .args .intervals .now)) (a .loop .i) _ _ (a .loop .inv .1) (here c))
 
-returns-2 : tie.Need-returns-2 Inv-loop μ-loop
-returns-2 c = let a = c .before in let s = a .before .before in
-    any-end (test (s .args .intervals .now)) (s .args .n) (a .loop .i) (a .loop .inv .1) (a .loop .inv .0) (c .loop-test .left)
+returns : tie.Need-returns Inv-loop μ-loop
+returns c = let a = c .before in let s = a .before .before .before in
+    let e : a .loop .i ≡ s .args .n = omega (arith, a .loop .inv .0, c .loop-test .left) in
+    a .loop .inv .1 ∙ ap (λ (k : ℕ). anyBelow k (test (s .args .intervals .now))) e
 
 pub some-interval-wrong-spec : {M : Type 1} → statement M
 some-interval-wrong-spec =
@@ -42,10 +48,17 @@ some-interval-wrong-spec =
     (tie.spec
     Inv-loop
     μ-loop
-    loop-holds
     (λ c κs. search needs)
-    returns
+    loop-holds
+    (λ c. search needs)
+    (λ c. search needs)
+    (λ c. search needs)
+    (λ c. search needs)
+    (λ c. search needs)
+    (λ c. search needs)
+    (λ c. search needs)
+    (λ c κs. search needs)
     (λ c. search needs)
     (λ c. search needs)
     loop-again
-    returns-2)
+    returns)

@@ -1,73 +1,71 @@
--- `relax_once` meets its contract: what the edges that are left relax is what all of them relax, for the lows and for the highs. Assumes nothing.
-use mathlib.Core.Path.{_≡_}
-use Prim.Native.Nat.{_+_, _*_, _-_, _<_}
+-- `relax_once` meets its contract: each edge keeps what a pass keeps, and where none changed anything, none has anything left to do. Assumes nothing.
+use Prim.Native.Nat.{_+_, _*_, _<_}
 use native.Mathlib.Omega.{arith}
 use lib.ListN.{length}
 use borrow.Author.Needs.{needs}
-use Rattle.intervals.specs.Inner.{endsAt}
-use Rattle.intervals.specs.declared.Ends.{Ends}
-use Rattle.intervals.proofs.Tables.{Relaxing, relaxing-start, in-table, relaxing-more, relaxing-end}
+use Rattle.intervals.proofs.Tables.{Relaxing, relaxing-start, turn-below, in-table, relaxing-more, relaxing-end}
 use Rattle.intervals.proofs.relax_once.Statement.{statement}
 use Rattle.intervals.proofs.relax_once.Tie as tie
 
 abbrev Inv-loop : tie.InvT-loop
-Inv-loop edges count table₀ changed₀ e₀ table changed e = Relaxing edges count table₀ e changed table
+Inv-loop back edges count table₀ changed₀ left₀ table changed left = Relaxing back edges count table₀ left changed table
 
 abbrev μ-loop : tie.MeasureT-loop
-μ-loop edges count table₀ changed₀ e₀ table changed e = count - e
+μ-loop back edges count table₀ changed₀ left₀ table changed left = left
 
--- the places of both ends are in the table
-within : (c : tie.In-loop Inv-loop μ-loop) (ends : Ends) → ends ≡ endsAt (c .before .before .before .before .args .edges .now) (c .before .loop .e)
-    → (2 * ends .parent + 1 < length (c .before .loop .table)) × (2 * ends .child + 1 < length (c .before .loop .table))
-within c ends is = in-table _ _ _ (c .before .before .before .before .pre) _ _ _ (c .before .loop .inv) (c .loop-test .taken) ends is
+-- the places of both ends are in the table, and a usize holds them
+within : (c : tie.After-edge-at Inv-loop μ-loop)
+    → (2 * (c .edge-at .result .parent) + 1 < length (c .before .before .before .loop .table)) × (2 * (c .edge-at .result .child) + 1 < length (c .before .before .before .loop .table)) × (length (c .before .before .before .loop .table) < 18446744073709551616)
+within c = let l = c .before .before .before in
+    let w = in-table _ _ _ _ (l .before .before .before .pre) _ _ _ (l .loop .inv) (c .before .before .loop-test .taken) (c .before .turn-at .result) (c .before .turn-at .ensures) (c .edge-at .result) (c .edge-at .ensures) in
+    (w .0, w .1, omega (arith, l .loop .inv .long, l .before .before .before .good))
 
 loop-holds : tie.Need-loop-holds Inv-loop μ-loop
-loop-holds c = relaxing-start _ _ _ (λ i. omega (arith, c .slice-known .given i))
+loop-holds c = relaxing-start _ _ _ _ (λ i. omega (arith, c .slice-known .given i))
+
+turn-at-requires : tie.Need-turn-at-requires Inv-loop μ-loop
+turn-at-requires c κs = (c .loop-test .taken, c .before .loop .inv .so-far)
 
 edge-at-requires : tie.Need-edge-at-requires Inv-loop μ-loop
-edge-at-requires c κs = omega (arith, c .before .before .before .before .pre .table)
+edge-at-requires c κs = let l = c .before .before in
+    omega (arith, c .turn-at .ensures, turn-below (l .before .before .before .args .back) (l .before .before .before .args .count) (l .loop .left) (c .before .loop-test .taken) (l .loop .inv .so-far), l .before .before .before .pre .table)
 
 mul-to : tie.Need-mul-to Inv-loop μ-loop
-mul-to c = let e = c .before in
-    omega (arith, within (e .before) (e .edge-at .result) (e .edge-at .ensures), e .before .before .loop .inv .long, e .before .before .before .before .before .good)
+mul-to c = omega (arith, within (c .before))
 
 mul-from : tie.Need-mul-from Inv-loop μ-loop
-mul-from c = let e = c .before .before in
-    omega (arith, within (e .before) (e .edge-at .result) (e .edge-at .ensures), e .before .before .loop .inv .long, e .before .before .before .before .before .good)
-
-add-e : tie.Need-add-e Inv-loop μ-loop
-add-e c = omega (arith, c .before .before .before .before .before .before .before .pre .table)
+mul-from c = omega (arith, within (c .before .before))
 
 improve-requires : tie.Need-improve-requires Inv-loop μ-loop
-improve-requires c κs = let e = c .before .before .before in
-    let w = within (e .before) (e .edge-at .result) (e .edge-at .ensures) in (omega arith, omega arith)
+improve-requires c κs = let w = within (c .before .before .before) in (omega arith, omega arith)
 
 add-improve : tie.Need-add-improve Inv-loop μ-loop
-add-improve c = let e = c .before .before .before .before .before .before in
-    omega (arith, within (e .before) (e .edge-at .result) (e .edge-at .ensures), e .before .before .loop .inv .long, e .before .before .before .before .before .good)
+add-improve c = omega (arith, within (c .before .before .before .before .before .before))
 
 add-improve-2 : tie.Need-add-improve-2 Inv-loop μ-loop
-add-improve-2 c = let e = c .before .before .before .before .before .before in
-    omega (arith, within (e .before) (e .edge-at .result) (e .edge-at .ensures), e .before .before .loop .inv .long, e .before .before .before .before .before .good)
+add-improve-2 c = omega (arith, within (c .before .before .before .before .before .before))
 
 improve-requires-2 : tie.Need-improve-requires-2 Inv-loop μ-loop
-improve-requires-2 c κs = let e = c .before .before .before .before .before .before .before in
-    let w = within (e .before) (e .edge-at .result) (e .edge-at .ensures) in
+improve-requires-2 c κs = let w = within (c .before .before .before .before .before .before .before) in
     let n = c .before .before .before .improve .kept .1 .1 .1 .0 in (omega arith, omega arith)
 
 loop-again : tie.Need-loop-again Inv-loop μ-loop
-loop-again c = let e = c .before .before .before .before .before .before .before .before .before .before in
-    relaxing-more _ _ _ (e .before .before .before .before .before .pre) _ _ _ (e .before .before .loop .inv) (e .before .loop-test .taken) (e .edge-at .result) (e .edge-at .ensures)
-    (c .before .before .before .before .before .before .improve .last .1 .1 .1 .0) (c .before .before .improve2 .last .1 .1 .1 .0) (c .before .before .before .before .before .before .improve .result) (c .before .before .improve2 .result)
-    (c .before .before .before .before .before .before .improve .ensures .0) (c .before .before .before .before .before .before .improve .ensures .1) (c .before .before .improve2 .ensures .0) (c .before .before .improve2 .ensures .1)
-    (λ i. omega (arith, c .before .before .before .before .slice-known2 .given i)) (λ i. omega (arith, c .slice-known3 .given i))
-    (c .before .before .before .before .before .before .improve .kept .1 .1 .1 .0) (c .before .before .improve2 .kept .1 .1 .1 .0)
+loop-again c = let j = c .before .before in
+    let i = j .before .before .before .before in
+    let e = i .before .before .before .before in
+    let l = e .before .before .before in
+    relaxing-more _ _ _ _ (l .before .before .before .pre) _ _ _ (l .loop .inv) (e .before .before .loop-test .taken) (e .before .turn-at .result) (e .before .turn-at .ensures) (e .edge-at .result) (e .edge-at .ensures)
+    (i .improve .last .1 .1 .1 .0) (j .improve2 .last .1 .1 .1 .0) (i .improve .result) (j .improve2 .result)
+    (i .improve .ensures .0) (i .improve .ensures .1) (j .improve2 .ensures .0) (j .improve2 .ensures .1)
+    (λ k. omega (arith, j .before .before .slice-known2 .given k)) (λ k. omega (arith, c .slice-known3 .given k))
+    (i .improve .kept .1 .1 .1 .0) (j .improve2 .kept .1 .1 .1 .0)
 
 same-length : tie.Need-same-length Inv-loop μ-loop
 same-length c = c .before .loop .inv .long
 
 returns : tie.Need-returns Inv-loop μ-loop
-returns c = let w = relaxing-end _ _ _ (c .before .before .before .before .pre) _ _ _ (c .before .loop .inv) (c .loop-test .left) in (w .0, (w .1, c .before .loop .inv .went))
+returns c = let k = c .before .loop .inv in
+    (k .lower, (k .higher, (k .went, relaxing-end _ _ _ _ (c .before .before .before .before .pre) _ _ _ k (c .loop-test .left))))
 
 pub relax-once-spec : {M : Type 1} → statement M
 relax-once-spec =
@@ -76,10 +74,11 @@ relax-once-spec =
     Inv-loop
     μ-loop
     loop-holds
+    turn-at-requires
     edge-at-requires
     mul-to
     mul-from
-    add-e
+    (λ c. search needs)
     improve-requires
     add-improve
     add-improve-2

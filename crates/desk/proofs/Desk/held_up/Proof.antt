@@ -1,31 +1,24 @@
 -- `Desk::held_up` meets its contract: only a waiter is held up, by what its lock meets. Assumes nothing.
-use mathlib.Core.Path.{_≡_, sym, ap, _∙_}
+use mathlib.Core.Path.{sym, ap, _∙_}
 use lib.ListN.{take}
 use borrow.Author.Needs.{needs}
-use Rattle.desk.specs.Desks.{stageAt, listedAt}
 use Rattle.desk.specs.Sound.{heldUp}
 use Rattle.desk.proofs.Desk.held_up.Statement.{statement}
 use Rattle.desk.proofs.Desk.held_up.Tie as tie
 
--- the stage read is that of the party listed there
-here : (c : tie.After-stage) → stageAt (c .before .before .args .self) (listedAt (c .before .before .args .self) (c .before .before .args .i)) ≡ c .stage .result
-here c = sym (c .stage .ensures ∙ ap (stageAt (c .before .before .args .self)) (c .before .listed .ensures))
-
 returns : tie.Need-returns
-returns c = let a = c .before .before .before .before .args in sym (ap (heldUp (a .self .entries) (take (a .i) (a .self .queue))) (here (c .before .before) ∙ c .enum-told .given .1))
+returns c = let a = c .before .before .args in sym (ap (heldUp (a .self .entries) (take (a .k) (a .self .queue))) (c .enum-told .given .1))
 
 returns-2 : tie.Need-returns-2
-returns-2 c = let a = c .before .before .before .before .before .before .args in c .meets .ensures ∙ sym (ap (heldUp (a .self .entries) (take (a .i) (a .self .queue))) (here (c .before .before .before .before) ∙ c .before .before .s .given .1))
+returns-2 c = let a = c .before .before .before .before .args in c .meets .ensures ∙ sym (ap (heldUp (a .self .entries) (take (a .k) (a .self .queue))) (c .before .before .s .given .1))
 
 returns-3 : tie.Need-returns-3
-returns-3 c = let a = c .before .before .before .before .args in sym (ap (heldUp (a .self .entries) (take (a .i) (a .self .queue))) (here (c .before .before) ∙ c .enum-told2 .given .1))
+returns-3 c = let a = c .before .before .args in sym (ap (heldUp (a .self .entries) (take (a .k) (a .self .queue))) (c .enum-told2 .given .1))
 
 pub held-up-spec : {M : Type 1} → statement M
 held-up-spec =
     tie.close
     (tie.spec
-    (λ c κs. search needs)
-    (λ c κs. search needs)
     (λ c. search needs)
     (λ c. search needs)
     (λ c κs. search needs)

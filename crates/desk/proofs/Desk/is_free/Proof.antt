@@ -15,26 +15,26 @@ abbrev test : Desk → Lock → ℕ → Bool
 test self l k = againstHolder l (stageAt self k) || againstWaiter l (stageAt self k)
 
 abbrev Inv-loop : tie.InvT-loop
-Inv-loop self l i₀ i = (i ≤ 32) × (anyBelow i (test self l) ≡ false)
+Inv-loop l self i₀ i = (i ≤ 32) × (anyBelow i (test self l) ≡ false)
 
 abbrev μ-loop : tie.MeasureT-loop
-μ-loop self l i₀ i = 32 - i
+μ-loop l self i₀ i = 32 - i
 
 loop-holds : tie.Need-loop-holds Inv-loop μ-loop
 unfolding anyBelow
 loop-holds c = (search needs, refl)
 
 returns : tie.Need-returns Inv-loop μ-loop
-returns c = let a = c .before .before .before in let s = a .before in
-    sym (ap not (any-stop (test (s .args .self) (s .args .l)) 32 (a .loop .i) (c .before .before .loop-test .taken) (sym (c .before .stands-against .ensures) ∙ c .if1 .taken)))
+returns c = let a = c .before .before .before .before in let s = a .before in
+    sym (ap not (any-stop (test (s .args .t1) (s .args .l)) 32 (a .loop .i) (c .before .before .before .loop-test .taken) (sym (c .before .stands-against .ensures) ∙ c .if1 .taken)))
 
 loop-again : tie.Need-loop-again Inv-loop μ-loop
-loop-again c = let a = c .before .before .before in let s = a .before in
-    (search needs, any-next (test (s .args .self) (s .args .l)) (a .loop .i) (a .loop .inv .1) (sym (c .before .stands-against .ensures) ∙ c .if1 .left))
+loop-again c = let a = c .before .before .before .before in let s = a .before in
+    (search needs, any-next (test (s .args .t1) (s .args .l)) (a .loop .i) (a .loop .inv .1) (sym (c .before .stands-against .ensures) ∙ c .if1 .left))
 
 returns-2 : tie.Need-returns-2 Inv-loop μ-loop
 returns-2 c = let a = c .before in let s = a .before in
-    ap not (any-end (test (s .args .self) (s .args .l)) 32 (a .loop .i) (a .loop .inv .1) (a .loop .inv .0) (c .loop-test .left))
+    ap not (any-end (test (s .args .t1) (s .args .l)) 32 (a .loop .i) (a .loop .inv .1) (a .loop .inv .0) (c .loop-test .left))
 
 pub is-free-spec : {M : Type 1} → statement M
 is-free-spec =
@@ -43,6 +43,8 @@ is-free-spec =
     Inv-loop
     μ-loop
     loop-holds
+    (λ c. search needs)
+    (λ c. search needs)
     (λ c κs. search needs)
     returns
     (λ c. search needs)

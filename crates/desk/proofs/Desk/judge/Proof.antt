@@ -1,10 +1,13 @@
 -- `Desk::judge` meets its contract: one return for each check, the lowest number first. Assumes nothing.
 use mathlib.Core.Path.{refl, sym, ap, _∙_}
 use mathlib.Core.Bool.{not}
+use Prim.Native.Nat.{_*_}
+use lib.Dec.{ltb}
+use lib.ListN.{length}
 use borrow.Author.Needs.{needs}
-use borrow.Author.Tests.{lt-ltb, le-ltb}
+use borrow.Author.Tests.{lt-ltb, le-ltb, ltb-false}
 use Rattle.intervals.specs.Lists.{anyBelow, count}
-use Rattle.intervals.proofs.Bools.{or-neither}
+use Rattle.intervals.proofs.Bools.{or-left, or-neither}
 use Rattle.desk.specs.Desks.{lent}
 use Rattle.desk.specs.Sound.{soundDesk}
 use Rattle.desk.specs.Steps.{tablesShort, intervalWrong}
@@ -27,8 +30,15 @@ returns-4 c = let z = c .before .before .before .before .before .before .before 
 returns-5 : tie.Need-returns-5
 returns-5 c = let z = c .before .before .before .before .before .before .before .before .before .before .args in (search needs, judged-7 (lent (z .n) (z .intervals .now) (z .edges .now) (z .count)) (z .self) (z .party) (z .short) (or-neither (tablesShort (lent (z .n) (z .intervals .now) (z .edges .now) (z .count))) (z .short) (sym (c .before .before .before .before .before .before .before .tables-short .ensures) ∙ c .before .before .before .before .before .before .if1 .left) (c .before .before .before .before .before .if2 .left)) (sym (c .before .before .before .before .size-wrong .ensures) ∙ c .before .before .before .if3 .left) (le-ltb 1024 (z .count) (c .before .before .if4 .left)) (sym (c .before .edges-wrong .ensures) ∙ c .if5 .taken))
 
+some-interval-wrong-requires : tie.Need-some-interval-wrong-requires
+some-interval-wrong-requires c κs = let z = c .before .before .before .before .before .before .before .before .before .before .args in
+    ltb-false (length (z .intervals .now)) (2 * z .n) (or-left (ltb (length (z .intervals .now)) (2 * z .n)) (ltb (length (z .edges .now)) (2 * z .count)) (sym (c .before .before .before .before .before .before .before .tables-short .ensures) ∙ c .before .before .before .before .before .before .if1 .left))
+
 returns-6 : tie.Need-returns-6
 returns-6 c = let z = c .before .before .before .before .before .before .before .before .before .before .before .before .args in (search needs, judged-10 (lent (z .n) (z .intervals .now) (z .edges .now) (z .count)) (z .self) (z .party) (z .short) (or-neither (tablesShort (lent (z .n) (z .intervals .now) (z .edges .now) (z .count))) (z .short) (sym (c .before .before .before .before .before .before .before .before .before .tables-short .ensures) ∙ c .before .before .before .before .before .before .before .before .if1 .left) (c .before .before .before .before .before .before .before .if2 .left)) (sym (c .before .before .before .before .before .before .size-wrong .ensures) ∙ c .before .before .before .before .before .if3 .left) (le-ltb 1024 (z .count) (c .before .before .before .before .if4 .left)) (sym (c .before .before .before .edges-wrong .ensures) ∙ c .before .before .if5 .left) (rw (sym (c .before .some-interval-wrong .ensures) ∙ c .if6 .taken) refl))
+
+sound-requires : tie.Need-sound-requires
+sound-requires c κs = sym (c .before .some-interval-wrong .ensures) ∙ c .if6 .left
 
 returns-7 : tie.Need-returns-7
 returns-7 c = let z = c .before .before .before .before .before .before .before .before .before .before .before .before .before .before .args in (search needs, judged-10 (lent (z .n) (z .intervals .now) (z .edges .now) (z .count)) (z .self) (z .party) (z .short) (or-neither (tablesShort (lent (z .n) (z .intervals .now) (z .edges .now) (z .count))) (z .short) (sym (c .before .before .before .before .before .before .before .before .before .before .before .tables-short .ensures) ∙ c .before .before .before .before .before .before .before .before .before .before .if1 .left) (c .before .before .before .before .before .before .before .before .before .if2 .left)) (sym (c .before .before .before .before .before .before .before .before .size-wrong .ensures) ∙ c .before .before .before .before .before .before .before .if3 .left) (le-ltb 1024 (z .count) (c .before .before .before .before .before .before .if4 .left)) (sym (c .before .before .before .before .before .edges-wrong .ensures) ∙ c .before .before .before .before .if5 .left) (rw (sym (c .before .before .before .some-interval-wrong .ensures) ∙ c .before .before .if6 .left) (ap not (sym (sound-spanned (z .n) (z .intervals .now) (z .edges .now) (z .count) (z .self)) ∙ sym (c .before .sound .ensures)) ∙ c .if7 .taken)))
@@ -51,9 +61,9 @@ judge-spec =
     returns-4
     (λ c κs. search needs)
     returns-5
-    (λ c κs. search needs)
+    some-interval-wrong-requires
     returns-6
-    (λ c κs. search needs)
+    sound-requires
     returns-7
     returns-8
     returns-9)

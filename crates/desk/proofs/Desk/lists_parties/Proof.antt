@@ -9,12 +9,13 @@ returns : tie.Need-returns
 returns c = simp (lt-leb _ _ (c .if1 .taken))
 
 returns-2 : tie.Need-returns-2
-returns-2 c = c .all-listed-parties .ensures ∙ simp (le-leb _ _ (c .before .if1 .left))
+returns-2 c = c .all-parties .ensures ∙ simp (le-leb _ _ (c .before .before .before .if1 .left))
 
 pub lists-parties-spec : {M : Type 1} → statement M
 lists-parties-spec =
     tie.close
     (tie.spec
     returns
+    (λ c. search needs)
     (λ c κs. search needs)
     returns-2)

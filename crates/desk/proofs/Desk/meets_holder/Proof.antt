@@ -5,8 +5,8 @@ use Prim.Native.Nat.{ℕ, _-_, _≤_}
 use borrow.Author.Needs.{needs}
 use Rattle.intervals.specs.Lists.{anyBelow}
 use Rattle.intervals.proofs.Bounded.{any-next, any-stop, any-end}
-use Rattle.desk.specs.declared.Lock.{Lock}
 use Rattle.desk.specs.declared.Desk.{Desk}
+use Rattle.desk.specs.declared.Lock.{Lock}
 use Rattle.desk.specs.Desks.{stageAt, againstHolder}
 use Rattle.desk.proofs.Desk.meets_holder.Statement.{statement}
 use Rattle.desk.proofs.Desk.meets_holder.Tie as tie
@@ -15,26 +15,26 @@ abbrev test : Desk → Lock → ℕ → Bool
 test self l k = againstHolder l (stageAt self k)
 
 abbrev Inv-loop : tie.InvT-loop
-Inv-loop self l i₀ i = (i ≤ 32) × (anyBelow i (test self l) ≡ false)
+Inv-loop l self i₀ i = (i ≤ 32) × (anyBelow i (test self l) ≡ false)
 
 abbrev μ-loop : tie.MeasureT-loop
-μ-loop self l i₀ i = 32 - i
+μ-loop l self i₀ i = 32 - i
 
 loop-holds : tie.Need-loop-holds Inv-loop μ-loop
 unfolding anyBelow
 loop-holds c = (search needs, refl)
 
 returns : tie.Need-returns Inv-loop μ-loop
-returns c = let a = c .before .before .before in let s = a .before in
-    sym (any-stop (test (s .args .self) (s .args .l)) 32 (a .loop .i) (c .before .before .loop-test .taken) (sym (c .before .holds-against .ensures) ∙ c .if1 .taken))
+returns c = let a = c .before .before .before .before in let s = a .before in
+    sym (any-stop (test (s .args .t1) (s .args .l)) 32 (a .loop .i) (c .before .before .before .loop-test .taken) (sym (c .before .against-holder .ensures) ∙ c .if1 .taken))
 
 loop-again : tie.Need-loop-again Inv-loop μ-loop
-loop-again c = let a = c .before .before .before in let s = a .before in
-    (search needs, any-next (test (s .args .self) (s .args .l)) (a .loop .i) (a .loop .inv .1) (sym (c .before .holds-against .ensures) ∙ c .if1 .left))
+loop-again c = let a = c .before .before .before .before in let s = a .before in
+    (search needs, any-next (test (s .args .t1) (s .args .l)) (a .loop .i) (a .loop .inv .1) (sym (c .before .against-holder .ensures) ∙ c .if1 .left))
 
 returns-2 : tie.Need-returns-2 Inv-loop μ-loop
 returns-2 c = let a = c .before in let s = a .before in
-    any-end (test (s .args .self) (s .args .l)) 32 (a .loop .i) (a .loop .inv .1) (a .loop .inv .0) (c .loop-test .left)
+    any-end (test (s .args .t1) (s .args .l)) 32 (a .loop .i) (a .loop .inv .1) (a .loop .inv .0) (c .loop-test .left)
 
 pub meets-holder-spec : {M : Type 1} → statement M
 meets-holder-spec =
@@ -43,6 +43,8 @@ meets-holder-spec =
     Inv-loop
     μ-loop
     loop-holds
+    (λ c. search needs)
+    (λ c. search needs)
     (λ c κs. search needs)
     returns
     (λ c. search needs)
