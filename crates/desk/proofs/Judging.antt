@@ -3,18 +3,17 @@ use mathlib.Core.Path.{_≡_, refl, sym, ap, _∙_}
 use mathlib.Core.List.{List, [], _∷_}
 use mathlib.Core.Bool.{Bool, true, false, not, _&&_, _||_, and-false}
 use mathlib.Core.Option.{none, some}
-use Prim.Native.Nat.{ℕ, _+_, _*_, _/_, _≤_, _<_}
-use native.Mathlib.Numerals.{add-one}
+use Prim.Native.Nat.{ℕ, _*_, _/_, _≤_, _<_}
 use native.Mathlib.Omega.{arith}
 use lib.Dec.{eqb, leb, ltb}
 use lib.ListN.{take}
-use borrow.Author.Tests.{eqb-true, ne-eqb, lt-ltb, le-ltb, ltb-true, ltb-false, leb-true, leb-false, not-false}
+use borrow.Author.Tests.{eqb-true, ne-eqb, lt-ltb, le-ltb, ltb-true, ltb-false, leb-true, not-false}
 use Rattle.intervals.specs.Lists.{allBelow, anyBelow}
 use Rattle.intervals.specs.Answer.{Check, _when_, refusal}
 use Rattle.intervals.specs.Hierarchy.{edgesOf, someEdge, sizeWrong, edgesTooMany, edgeWrong}
 use Rattle.intervals.specs.Cover.{intervalAt}
 use Rattle.intervals.specs.declared.Interval.{Interval}
-use Rattle.intervals.proofs.Bools.{bool, not-both, and-left, and-right, and-both, or-left, or-right}
+use Rattle.intervals.proofs.Bools.{bool, not-both, and-left, and-right, and-both, or-left, or-right, over-not, three-not}
 use Rattle.intervals.proofs.Bounded.{all-at, all-of, any-none}
 use Rattle.intervals.proofs.Refusals.{refused-here, refused-later, NoneHolds, refusal-none}
 use Rattle.desk.specs.declared.Mode.{Mode}
@@ -94,17 +93,6 @@ pub lock-by : (table : List ℕ) (mode : Mode) (cover : ℕ) (i : Interval) → 
     → record { mode = mode; cover = cover; low = i .low; high = i .high } ≡ lockOn (spanned 0 table) mode cover
 lock-by table mode cover i p = ap (λ (x : Interval). record { mode = mode; cover = cover; low = x .low; high = x .high }) p
 
-pub over-not : (a b : ℕ) → ltb b a ≡ not (leb a b)
-over-not a b =
-    bool (leb a b)
-    (λ e. rw e (le-ltb b a (leb-true a b e)))
-    (λ e. rw e (lt-ltb b a (leb-false a b e)))
-
-three-not : (a b c : Bool) → ((not a || not b) || not c) ≡ not (a && b && c)
-three-not true true c = refl
-three-not true false c = refl
-three-not false b c = refl
-
 -- A CHAIN OF SEVEN TESTS fails where the first or the second does
 
 fails-1 : (a b c x y z w : Bool) → a ≡ false → false ≡ (a && b && c && x && y && z && w)
@@ -122,20 +110,6 @@ module _ (H : Hierarchy) (d : Desk) where
   pub unsound-2 : listsParties d ≡ true → listsOnce d ≡ false → false ≡ soundDesk H d
   unfolding soundDesk
   unsound-2 = fails-2 (listsParties d) (listsOnce d) (listsWaiting d) (intervalsReal d) (coversRight H d) (holdersApart d) (waitersHeldUp d)
-
--- THREE TESTS, one of which fails, or none
-pub three-1 : (a b c : Bool) → a ≡ false → false ≡ (a && b && c)
-three-1 a b c e = rw e refl
-
-pub three-2 : (a b c : Bool) → b ≡ false → false ≡ (a && b && c)
-three-2 true b c e = rw e refl
-three-2 false b c e = refl
-
-pub three-3 : (a b c : Bool) → c ≡ false → false ≡ (a && b && c)
-three-3 a b c e = rw e (sym (and-false (a && b)))
-
-pub three-all : (a b c : Bool) → true ≡ a → true ≡ b → true ≡ c → true ≡ (a && b && c)
-three-all a b c p q r = sym (and-both (a && b) c (and-both a b (sym p) (sym q)) (sym r))
 
 -- TWO CLAUSES THAT NEED NO PASS. A cover that is right, of intervals that are not wrong, is real
 not-wrong : (H : Hierarchy) (node : ℕ) → anyBelow (H .n) (intervalWrong H) ≡ false → node < H .n → realInterval (lowIn H node) (highIn H node) ≡ true
@@ -198,20 +172,22 @@ entries-pass p o w a r c h u ep eo e er ew =
     (λ q. q ∙ sym (rw q (and-false (p && o && (w && a) && r && c && h))))
 
 module _ (H : Hierarchy) (d : Desk) where
+  -- the two halves of `listsWaiting`
+  abbrev listedWait : Bool
+  listedWait = allBelow (d .waiting) (λ i. isWaiting (stageAt d (listedAt d i)))
+
+  abbrev waitingListed : Bool
+  waitingListed = allBelow 32 (λ party. not (isWaiting (stageAt d party)) || isListed d party)
+
   pub unsound-entries : entriesRight H d ≡ false → false ≡ soundDesk H d
   unfolding soundDesk
-  unsound-entries = entries-fail (listsParties d) (listsOnce d) (allBelow (d .waiting) (λ i. isWaiting (stageAt d (listedAt d i)))) (allBelow 32 (λ party. not (isWaiting (stageAt d party)) || isListed d party)) (intervalsReal d) (coversRight H d) (holdersApart d) (waitersHeldUp d)
+  unsound-entries = entries-fail (listsParties d) (listsOnce d) listedWait waitingListed (intervalsReal d) (coversRight H d) (holdersApart d) (waitersHeldUp d)
 
   pub sound-held : anyBelow (H .n) (intervalWrong H) ≡ false → listsParties d ≡ true → listsOnce d ≡ true → entriesRight H d ≡ true → waitersHeldUp d ≡ soundDesk H d
   unfolding soundDesk
   sound-held right ep eo e =
-      entries-pass (listsParties d) (listsOnce d) (allBelow (d .waiting) (λ i. isWaiting (stageAt d (listedAt d i)))) (allBelow 32 (λ party. not (isWaiting (stageAt d party)) || isListed d party)) (intervalsReal d) (coversRight H d) (holdersApart d) (waitersHeldUp d)
+      entries-pass (listsParties d) (listsOnce d) listedWait waitingListed (intervalsReal d) (coversRight H d) (holdersApart d) (waitersHeldUp d)
       ep eo e (covered-real H d right) (held-listed d)
-
--- one number more to look at
-pub any-one-more : (p : ℕ → Bool) (i : ℕ) (so-far here : Bool) → so-far ≡ anyBelow i p → here ≡ p i → (so-far || here) ≡ anyBelow (i + 1) p
-unfolding anyBelow
-any-one-more p i so-far here e f = rw add-one (ap (_|| here) e ∙ ap (anyBelow i p ||_) f)
 
 -- the five tests of an interval
 pub outside-tests : (low high least most : ℕ) → ((((ltb low 1 || ltb high low) || ltb 256 high) || ltb low least) || ltb most high) ≡ outside low high least most

@@ -13,8 +13,9 @@ use Rattle.desk.specs.declared.Stage.{Stage}
 use Rattle.desk.specs.declared.Stage.the-variants.{Out, Waiting, Holding}
 use Rattle.desk.specs.declared.Lock.{Lock}
 use Rattle.desk.specs.declared.Entry.{Entry}
+use Rattle.desk.specs.declared.Desk.{Desk}
 use Rattle.desk.specs.Locks.{conflict, realInterval, isMode, isHold, lockNumbered, conflictCall}
-use Rattle.desk.specs.Desks.{entryOf, stageIn, isOut, isWaiting}
+use Rattle.desk.specs.Desks.{entryOf, stageIn, stageAt, listedAt, isOut, isWaiting}
 use Rattle.desk.specs.Sound.{holdersConflict}
 use Rattle.desk.specs.Inner.{placeOf, seatedAt}
 
@@ -23,12 +24,16 @@ pub past-out : (entries : List Entry) (party : ℕ) → length entries ≤ party
 past-out entries party h = ap (λ (e : Entry). e .stage) (sym (List·getD-eq-default entries (entryOf Out) h))
 
 -- what is read at a party's place is the party's stage
-pub seated-stage : (entries : List Entry) (party at : ℕ) → length entries ≡ 32 → at ≡ placeOf party → seatedAt party (stageIn entries at) ≡ stageIn entries party
+seated-stage : (entries : List Entry) (party at : ℕ) → length entries ≡ 32 → at ≡ placeOf party → seatedAt party (stageIn entries at) ≡ stageIn entries party
 seated-stage entries party at long e =
     ap (λ (k : ℕ). seatedAt party (stageIn entries k)) e
     ∙ bool (ltb party 32)
     (λ h. rw h refl)
     (λ h. rw h (past-out entries party (let q : 32 ≤ party = ltb-false party 32 h in omega arith)))
+
+-- of a party that is listed
+pub seated-listed : (d : Desk) (i party at : ℕ) → length (d .entries) ≡ 32 → party ≡ listedAt d i → at ≡ placeOf party → seatedAt party (stageAt d at) ≡ stageAt d (listedAt d i)
+seated-listed d i party at long p e = seated-stage (d .entries) party at long e ∙ ap (stageAt d) p
 
 -- the bounds of a hold of the conflict call fit a lock
 pub hold-bounds : (m low high : ℕ) → isHold m low high ≡ true → (low ≤ 256) × (high ≤ 256)

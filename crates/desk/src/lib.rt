@@ -209,14 +209,6 @@ fn seated(party: usize, s: Stage) -> Stage
     Stage::Out
 }
 
-// Whether a lock conflicts with what a party waits for, by what stands at its place.
-fn waits_against(l: Lock, party: usize, s: Stage) -> bool
-    ensures { λ r. ⌜ r ≡ againstWaiter l (seatedAt party s) ⌝ }
-{
-    let t = seated(party, s);
-    against_waiter(l, t)
-}
-
 // Whether a lock conflicts with what a party at this stage holds or waits for.
 fn stands_against(l: Lock, here: Stage) -> bool
     ensures { λ r. ⌜ r ≡ againstHolder l here || againstWaiter l here ⌝ }
@@ -276,7 +268,7 @@ fn lists_at(queue: &[u8], party: usize, i: usize) -> bool
     party_at(queue, i) == party
 }
 
-// Whether the first places of an arrival list have the party.
+// Whether one of the first places of an arrival list has the party.
 fn is_listed(queue: &[u8], waiting: usize, party: usize) -> bool
     ensures { λ r. ⌜ r ≡ anyBelow waiting (λ i. eqb (getD (now (queue .entry)) i 0) party) ⌝ }
 {
@@ -351,8 +343,9 @@ impl Desk {
             let party = party_at(&queue, i);
             let at = place(party);
             let e = self.entries[at];
-            let s = e.stage;
-            if waits_against(l, party, s) {
+            let here = e.stage;
+            let s = seated(party, here);
+            if against_waiter(l, s) {
                 return true;
             }
             i += 1;

@@ -72,6 +72,11 @@ module _ (p : ℕ → Bool) where
   none-of zero f = refl
   none-of (suc n) f = or-neither (anyBelow n p) (p n) (none-of n (λ i l. f i (omega arith))) (f n (omega arith))
 
+  -- one number more in a loop that looks at all
+  pub any-one-more : (i : ℕ) (so-far here : Bool) → so-far ≡ anyBelow i p → here ≡ p i → (so-far || here) ≡ anyBelow (i + 1) p
+  unfolding anyBelow
+  any-one-more i so-far here e f = rw add-one (ap (_|| here) e ∙ ap (anyBelow i p ||_) f)
+
   -- the loop's end: what is counted is all
   pub all-end : (n i : ℕ) → allBelow i p ≡ true → i ≤ n → n ≤ i → true ≡ allBelow n p
   all-end n i a h g = sym (ap (λ (k : ℕ). allBelow k p) (let e : n ≡ i = omega arith in e) ∙ a)

@@ -1,4 +1,4 @@
--- The turns of a loop over an edge table: what is left of the table from edge e on. Assumes nothing.
+-- The turns of a loop over an edge table: what is left of the table from edge e on, and what holds at each of its places. Assumes nothing.
 use mathlib.Core.Path.{_≡_, refl, sym, ap, _∙_}
 use mathlib.Core.List.{List, [], _∷_}
 use mathlib.Core.Bool.{Bool, true, false, _||_}

@@ -1,4 +1,4 @@
--- The flags that spread over a table of edges are those of the nodes reached. Assumes nothing.
+-- Ways along edges, and flags: those that spread over a table of edges are those of the nodes reached. Assumes nothing.
 use mathlib.Core.Path.{_≡_, refl, sym, ap, _∙_, subst}
 use mathlib.Core.List.{List, [], _∷_}
 use mathlib.Core.Bool.{Bool, true, false, not, _||_}

@@ -101,7 +101,7 @@ pub record From (es values : List ℕ) (node v : ℕ) : Type 0 where
   pub way : Reach es node of
   pub same : v ≡ getD values of 0
 
--- what a pass over the edges keeps: each value is one of those that its node reached, and as good as the node's own
+-- what a pass over the edges keeps: each value is one of those that its node reached, and as good as what the node had
 pub record Kept (up : Bool) (es before after : List ℕ) : Type 0 where
   pub long : length after ≡ length before
   pub from : (node : ℕ) → From es before node (getD after node 0)

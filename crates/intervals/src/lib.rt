@@ -92,15 +92,15 @@ fn edge_wrong(n: usize, parent: usize, child: usize) -> bool
     parent == child
 }
 
-// Whether an edge is none that n nodes may have, of ends as the table has them. All four tests are made, so that many edges are tested at once.
+// The same of ends as the table has them, for an n that fits what an end fits. All four tests are made, so that many edges are tested at once.
 fn ends_wrong(n: u16, parent: u16, child: u16) -> bool
     ensures { λ r. ⌜ r ≡ edgeWrong n parent child ⌝ }
 {
     (n <= parent) | (n <= child) | (child == 0) | (parent == child)
 }
 
-// Whether some edge is none that n nodes may have, for an n that fits what an end fits.
-fn few_edges_wrong(n: u16, edges: &[u16], count: usize) -> bool
+// Whether some edge is none that n nodes may have, for such an n.
+fn narrow_edges_wrong(n: u16, edges: &[u16], count: usize) -> bool
     ensures { λ r. ⌜ r ≡ someEdge (edgeWrong n) (edgesOf (now (edges .entry)) count) ⌝ }
 {
     let whole = whole_edges(edges, count);
@@ -115,8 +115,8 @@ fn few_edges_wrong(n: u16, edges: &[u16], count: usize) -> bool
     wrong
 }
 
-// The same for any n.
-fn many_edges_wrong(n: usize, edges: &[u16], count: usize) -> bool
+// The same for a larger n. It is right for any.
+fn wide_edges_wrong(n: usize, edges: &[u16], count: usize) -> bool
     ensures { λ r. ⌜ r ≡ someEdge (edgeWrong n) (edgesOf (now (edges .entry)) count) ⌝ }
 {
     let whole = whole_edges(edges, count);
@@ -136,9 +136,9 @@ pub fn edges_wrong(n: usize, edges: &[u16], count: usize) -> bool
     ensures { λ r. ⌜ r ≡ someEdge (edgeWrong n) (edgesOf (now (edges .entry)) count) ⌝ }
 {
     if n < 65536 {
-        return few_edges_wrong(n as u16, edges, count);
+        return narrow_edges_wrong(n as u16, edges, count);
     }
-    many_edges_wrong(n, edges, count)
+    wide_edges_wrong(n, edges, count)
 }
 
 // Sets each byte to 0.
@@ -253,7 +253,7 @@ fn clear_numbers(numbers: &mut [u16])
     }
 }
 
-// Numbers the nodes by a walk from the root.
+// Numbers the nodes by a walk from the root, and leaves the marks of that walk.
 fn number(edges: &[u16], count: usize, marks: &mut [u8], numbers: &mut [u16])
     requires { ⌜ Fresh (length (now marks)) count (now edges) (now numbers) ⌝ }
     ensures { λ _. ⌜ now (marks .exit) ≡ lastMarks (length (now (marks .entry))) (edgesOf (now (edges .entry)) count) ⌝ }
@@ -313,7 +313,7 @@ fn or_most(number: u16) -> u16
     number
 }
 
-// Writes what low and high start from for each of n nodes, its number.
+// Writes what low and high start from for each of n nodes: its number, or 65,535 as the low of a node without one.
 fn interleave(n: usize, numbers: &[u16], table: &mut [u16])
     requires { ⌜ n ≤ length (now numbers) ⌝ }
     requires { ⌜ length (now table) ≡ 2 * n ⌝ }
@@ -388,18 +388,21 @@ fn relax_once(back: bool, edges: &[u16], count: usize, table: &mut [u16]) -> boo
     changed
 }
 
-// Gives each node the least low and the greatest high that it reaches. Passes back and on take turns, since the one or the other needs many turns
-// where the table's order is against it.
+// Gives each node the least low and the greatest high that it reaches, by one pass back and two on in turn: a table's order that is against the one
+// is most often in favour of the other, and where it favours neither, a second pass on gets further than one back. Some order needs about n passes still.
 fn settle(edges: &[u16], count: usize, table: &mut [u16])
     requires { ⌜ Edges (length (lows (now table))) count (now edges) ⌝ }
     ensures { λ _. ⌜ Best false (edgesOf (now (edges .entry)) count) (lows (now (table .entry))) (lows (now (table .exit))) ⌝ }
     ensures { λ _. ⌜ Best true (edgesOf (now (edges .entry)) count) (highs (now (table .entry))) (highs (now (table .exit))) ⌝ }
 {
-    let mut back = true;
+    let mut last = false;
+    let mut before = false;
     let mut on = true;
     while on {
+        let back = !(last | before);
         on = relax_once(back, edges, count, table);
-        back = !back;
+        before = last;
+        last = back;
     }
 }
 

@@ -1,7 +1,7 @@
 -- `size_wrong` meets its contract: one return for each bound. Assumes nothing.
 use mathlib.Core.Path.{refl, _∙_}
 use borrow.Author.Tests.{lt-leb, le-leb}
-use Rattle.desk.proofs.Judging.{over-not}
+use Rattle.intervals.proofs.Bools.{over-not}
 use Rattle.desk.proofs.size_wrong.Statement.{statement}
 use Rattle.desk.proofs.size_wrong.Tie as tie
 

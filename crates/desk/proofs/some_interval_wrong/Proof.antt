@@ -8,9 +8,9 @@ use lib.ListN.{getD}
 use borrow.Author.Needs.{needs}
 use Rattle.intervals.specs.Lists.{anyBelow}
 use Rattle.intervals.specs.declared.Interval.{Interval}
+use Rattle.intervals.proofs.Bounded.{any-one-more}
 use Rattle.desk.specs.Steps.{intervalWrong}
 use Rattle.desk.specs.Inner.{spanned, outside}
-use Rattle.desk.proofs.Judging.{any-one-more}
 use Rattle.desk.proofs.some_interval_wrong.Statement.{statement}
 use Rattle.desk.proofs.some_interval_wrong.Tie as tie
 

@@ -1,4 +1,4 @@
--- `judge` meets its contract: each test is the refusal's own. Assumes nothing.
+-- `judge` meets its contract: each test is the refusal's own, and the numbers are the walk's. Assumes nothing.
 use mathlib.Core.Path.{_≡_, sym, ap, _∙_}
 use mathlib.Core.Bool.{false}
 use mathlib.Core.List.{List, _++_}

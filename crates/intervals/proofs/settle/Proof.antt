@@ -7,10 +7,10 @@ use Rattle.intervals.proofs.settle.Statement.{statement}
 use Rattle.intervals.proofs.settle.Tie as tie
 
 abbrev Inv-loop : tie.InvT-loop
-Inv-loop edges count table₀ back₀ on₀ table back on = Settling (edgesOf edges count) table₀ on table
+Inv-loop edges count table₀ last₀ before₀ on₀ table last before on = Settling (edgesOf edges count) table₀ on table
 
 abbrev μ-loop : tie.MeasureT-loop
-μ-loop edges count table₀ back₀ on₀ table back on = oneIf on (tableWeight table)
+μ-loop edges count table₀ last₀ before₀ on₀ table last before on = oneIf on (tableWeight table)
 
 loop-holds : tie.Need-loop-holds Inv-loop μ-loop
 loop-holds c = settling-start _ _

@@ -6,12 +6,12 @@ use Prim.Native.Nat.{ℕ, _-_, _≤_}
 use borrow.Author.Needs.{needs}
 use borrow.Author.Tests.{not-true, not-false}
 use Rattle.intervals.specs.Lists.{allBelow}
+use Rattle.intervals.proofs.Bools.{three-1, three-2, three-3, three-all}
 use Rattle.intervals.proofs.Bounded.{all-next, all-stop, all-end}
 use Rattle.desk.specs.declared.Desk.{Desk}
 use Rattle.desk.specs.Desks.{stageAt, isWaiting}
 use Rattle.desk.specs.Sound.{isListed, ofLock, coverRight, holdersConflict}
 use Rattle.desk.specs.Inner.{spanned}
-use Rattle.desk.proofs.Judging.{three-1, three-2, three-3, three-all}
 use Rattle.desk.proofs.Desk.entries_right.Statement.{statement}
 use Rattle.desk.proofs.Desk.entries_right.Tie as tie
 

@@ -10,8 +10,8 @@ use Rattle.intervals.proofs.Bounded.{any-next, any-stop, any-end, any-take}
 use Rattle.intervals.proofs.Loops.{field-length}
 use Rattle.desk.specs.declared.Lock.{Lock}
 use Rattle.desk.specs.declared.Desk.{Desk}
-use Rattle.desk.specs.Desks.{stageIn, stageAt, listedAt, againstWaiter, meetsWaiter}
-use Rattle.desk.proofs.Stages.{seated-stage}
+use Rattle.desk.specs.Desks.{stageAt, listedAt, againstWaiter, meetsWaiter}
+use Rattle.desk.proofs.Stages.{seated-listed}
 use Rattle.desk.proofs.Desk.meets_waiter.Statement.{statement}
 use Rattle.desk.proofs.Desk.meets_waiter.Tie as tie
 
@@ -34,11 +34,11 @@ entries-long : (s : tie.Start Inv-loop μ-loop) → length (s .args .t1 .entries
 entries-long s = search (field-length, needs)
 
 -- the stage that was tested is that of the party listed there
-here : (c : tie.After-waits-against Inv-loop μ-loop) → test (c .before .before .before .before .before .before .before .before .args .t1) (c .before .before .before .before .before .before .before .before .args .l) (c .before .before .before .before .before .before .loop .i) ≡ c .waits-against .result
-here c = let p = c .before .before .before in let s = p .before .before .before .before .before in
-    sym (c .waits-against .ensures
-    ∙ ap (againstWaiter (s .args .l)) (seated-stage (s .args .t1 .entries) (p .party-at .result) (c .before .before .place .result) (entries-long s) (c .before .before .place .ensures .1)
-    ∙ ap (stageIn (s .args .t1 .entries)) (p .party-at .ensures)))
+here : (c : tie.After-against-waiter Inv-loop μ-loop) → test (c .before .before .before .before .before .before .before .before .before .args .t1) (c .before .before .before .before .before .before .before .before .before .args .l) (c .before .before .before .before .before .before .before .loop .i) ≡ c .against-waiter .result
+here c = let p = c .before .before .before .before in let s = p .before .before .before .before .before in
+    sym (c .against-waiter .ensures
+    ∙ ap (againstWaiter (s .args .l)) (c .before .seated .ensures
+    ∙ seated-listed (s .args .t1) (p .before .before .before .loop .i) (p .party-at .result) (c .before .before .before .place .result) (entries-long s) (p .party-at .ensures) (c .before .before .before .place .ensures .1)))
 
 loop-holds : tie.Need-loop-holds Inv-loop μ-loop
 unfolding anyBelow
@@ -48,11 +48,11 @@ element-copy-out-e : tie.Need-element-copy-out-e Inv-loop μ-loop
 element-copy-out-e c = omega (arith, c .place .ensures .0)
 
 returns : tie.Need-returns Inv-loop μ-loop
-returns c = let a = c .before .before .before .before .before .before .before in let s = a .before .before in
-    sym (by-place s ∙ any-stop (test (s .args .t1) (s .args .l)) (s .args .k) (a .loop .i) (c .before .before .before .before .before .before .loop-test .taken) (here (c .before) ∙ c .if1 .taken))
+returns c = let a = c .before .before .before .before .before .before .before .before in let s = a .before .before in
+    sym (by-place s ∙ any-stop (test (s .args .t1) (s .args .l)) (s .args .k) (a .loop .i) (c .before .before .before .before .before .before .before .loop-test .taken) (here (c .before) ∙ c .if1 .taken))
 
 loop-again : tie.Need-loop-again Inv-loop μ-loop
-loop-again c = let a = c .before .before .before .before .before .before .before in let s = a .before .before in
+loop-again c = let a = c .before .before .before .before .before .before .before .before in let s = a .before .before in
     (search needs, any-next (test (s .args .t1) (s .args .l)) (a .loop .i) (a .loop .inv .1) (here (c .before) ∙ c .if1 .left))
 
 returns-2 : tie.Need-returns-2 Inv-loop μ-loop
@@ -71,6 +71,7 @@ meets-waiter-spec =
     (λ c κs. search needs)
     (λ c. search needs)
     element-copy-out-e
+    (λ c κs. search needs)
     (λ c κs. search needs)
     returns
     (λ c. search needs)

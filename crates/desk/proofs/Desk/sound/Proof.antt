@@ -1,4 +1,4 @@
--- `Desk::sound` meets its contract: one test after the other, and the first that fails decides. Assumes nothing.
+-- `Desk::sound` meets its contract: one test after the other, and the first that fails decides; where none does, the two clauses without a test hold too. Assumes nothing.
 use mathlib.Core.Path.{sym, _∙_}
 use borrow.Author.Needs.{needs}
 use borrow.Author.Tests.{not-true, not-false}

@@ -10,9 +10,9 @@ use Rattle.intervals.specs.Lists.{allBelow}
 use Rattle.intervals.proofs.Bounded.{all-next, all-stop, all-end}
 use Rattle.intervals.proofs.Loops.{field-length}
 use Rattle.desk.specs.declared.Desk.{Desk}
-use Rattle.desk.specs.Desks.{stageIn, stageAt, listedAt}
+use Rattle.desk.specs.Desks.{stageAt, listedAt}
 use Rattle.desk.specs.Sound.{heldUp}
-use Rattle.desk.proofs.Stages.{seated-stage}
+use Rattle.desk.proofs.Stages.{seated-listed}
 use Rattle.desk.proofs.Desk.waiters_held_up.Statement.{statement}
 use Rattle.desk.proofs.Desk.waiters_held_up.Tie as tie
 
@@ -33,8 +33,7 @@ here : (c : tie.After-held-up Inv-loop μ-loop) → test (c .before .before .bef
 here c = let p = c .before .before .before .before in let s = p .before .before .before .before .before in
     sym (c .held-up .ensures
     ∙ ap (heldUp (s .args .t1 .entries) (take (p .before .before .before .loop .i) (s .args .t1 .queue))) (c .before .seated .ensures
-    ∙ seated-stage (s .args .t1 .entries) (p .party-at .result) (c .before .before .before .place .result) (entries-long s) (c .before .before .before .place .ensures .1)
-    ∙ ap (stageIn (s .args .t1 .entries)) (p .party-at .ensures)))
+    ∙ seated-listed (s .args .t1) (p .before .before .before .loop .i) (p .party-at .result) (c .before .before .before .place .result) (entries-long s) (p .party-at .ensures) (c .before .before .before .place .ensures .1)))
 
 loop-holds : tie.Need-loop-holds Inv-loop μ-loop
 unfolding allBelow

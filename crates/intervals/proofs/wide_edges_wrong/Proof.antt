@@ -1,12 +1,12 @@
--- `many_edges_wrong` meets its contract: what is left of the table decides. Assumes nothing.
+-- `wide_edges_wrong` meets its contract: what is left of the table decides. Assumes nothing.
 use mathlib.Core.Path.{_≡_, refl, sym, _∙_}
 use Prim.Native.Nat.{_-_}
 use native.Mathlib.Omega.{arith}
 use borrow.Author.Needs.{needs}
 use Rattle.intervals.specs.Hierarchy.{edgesOf, someEdge, edgeWrong}
 use Rattle.intervals.proofs.EdgeLoops.{rest, some-stop, some-next, end-some}
-use Rattle.intervals.proofs.many_edges_wrong.Statement.{statement}
-use Rattle.intervals.proofs.many_edges_wrong.Tie as tie
+use Rattle.intervals.proofs.wide_edges_wrong.Statement.{statement}
+use Rattle.intervals.proofs.wide_edges_wrong.Tie as tie
 
 abbrev Inv-loop : tie.InvT-loop
 Inv-loop n edges count whole e₀ e = someEdge (edgeWrong n) (rest edges count e) ≡ someEdge (edgeWrong n) (edgesOf edges count)
@@ -34,8 +34,8 @@ returns-2 : tie.Need-returns-2 Inv-loop μ-loop
 returns-2 c = let a = c .before .before .before .before .args in
     sym (end-some (a .edges .now) (a .count) (c .before .loop .e) (omega (arith, c .before .before .whole-edges .ensures)) (edgeWrong (a .n))) ∙ c .before .loop .inv
 
-pub many-edges-wrong-spec : {M : Type 1} → statement M
-many-edges-wrong-spec =
+pub wide-edges-wrong-spec : {M : Type 1} → statement M
+wide-edges-wrong-spec =
     tie.close
     (tie.spec
     Inv-loop

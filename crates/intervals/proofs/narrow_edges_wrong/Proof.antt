@@ -1,4 +1,4 @@
--- `few_edges_wrong` meets its contract: what was found, or what is left of the table, decides. Assumes nothing.
+-- `narrow_edges_wrong` meets its contract: what was found, or what is left of the table, decides. Assumes nothing.
 use mathlib.Core.Path.{_≡_, refl, sym, ap, _∙_}
 use mathlib.Core.Bool.{Bool, _||_, or-false, or-assoc}
 use Prim.Native.Nat.{_+_, _-_, _*_, _<_}
@@ -7,8 +7,8 @@ use lib.ListN.{length}
 use borrow.Author.Needs.{needs}
 use Rattle.intervals.specs.Hierarchy.{edgesOf, someEdge, edgeWrong}
 use Rattle.intervals.proofs.EdgeLoops.{rest, rest-some, end-some}
-use Rattle.intervals.proofs.few_edges_wrong.Statement.{statement}
-use Rattle.intervals.proofs.few_edges_wrong.Tie as tie
+use Rattle.intervals.proofs.narrow_edges_wrong.Statement.{statement}
+use Rattle.intervals.proofs.narrow_edges_wrong.Tie as tie
 
 abbrev Inv-loop : tie.InvT-loop
 Inv-loop n edges count whole wrong₀ e₀ wrong e = (wrong || someEdge (edgeWrong n) (rest edges count e)) ≡ someEdge (edgeWrong n) (edgesOf edges count)
@@ -57,8 +57,8 @@ returns c = let a = c .before in let z = a .before .before .before .args in
     ∙ ap (a .loop .wrong ||_) (sym (end-some (z .edges .now) (z .count) (a .loop .e) (omega (arith, a .before .whole-edges .ensures, c .loop-test .left)) (edgeWrong (z .n))))
     ∙ a .loop .inv
 
-pub few-edges-wrong-spec : {M : Type 1} → statement M
-few-edges-wrong-spec =
+pub narrow-edges-wrong-spec : {M : Type 1} → statement M
+narrow-edges-wrong-spec =
     tie.close
     (tie.spec
     Inv-loop
