@@ -136,16 +136,11 @@ class Hierarchy:
         return self.low[r] <= low and high <= self.high[r]
 
     def cover(self, names):
+        """02, point 1: of all records whose interval contains the call's the narrowest, of equally narrow ones the lowest number."""
         low, high = min(self.low[x] for x in names), max(self.high[x] for x in names)
-        present = 0
-        while True:
-            width = self.high[present] - self.low[present]
-            for c in self.children[present]:
-                if self.contains(c, low, high) and self.high[c] - self.low[c] < width:
-                    present = c
-                    break
-            else:
-                return present
+        around = [x for x in range(self.n) if self.contains(x, low, high)]
+        narrowest = min(self.high[x] - self.low[x] for x in around)
+        return min(x for x in around if self.high[x] - self.low[x] == narrowest)
 
 
 # ---- visits

@@ -270,22 +270,49 @@ fn cycles() {
 }
 
 // The cover of a call.
-fn cover(name: &[u8], places: &[u16], edges: &[u16], count: usize, names: &[u16]) {
+fn cover(name: &[u8], n: usize, places: &[u16], names: &[u16]) {
     text(name);
     text(b": ");
-    number(intervals::cover(places, edges, count, names) as u64);
+    number(intervals::cover(n, places, names) as u64);
     text(b"\n");
 }
 
 // Covers over table T.
-fn covers(places: &[u16], edges: &[u16]) {
-    cover(b"T, cover {3,4}", places, edges, 11, &[3, 4]);
-    cover(b"T, cover {7,8}", places, edges, 11, &[7, 8]);
-    cover(b"T, cover {9}", places, edges, 11, &[9]);
-    cover(b"T, cover {4,5}", places, edges, 11, &[4, 5]);
-    cover(b"T, cover {8}", places, edges, 11, &[8]);
-    cover(b"T, cover {3,3,3}", places, edges, 11, &[3, 3, 3]);
-    cover(b"T, cover {0}", places, edges, 11, &[0]);
+fn covers(places: &[u16]) {
+    cover(b"T, cover {3,4}", 10, places, &[3, 4]);
+    cover(b"T, cover {7,8}", 10, places, &[7, 8]);
+    cover(b"T, cover {9}", 10, places, &[9]);
+    cover(b"T, cover {4,5}", 10, places, &[4, 5]);
+    cover(b"T, cover {8}", 10, places, &[8]);
+    cover(b"T, cover {3,3,3}", 10, places, &[3, 3, 3]);
+    cover(b"T, cover {0}", 10, places, &[0]);
+    cover(b"T, cover {6}", 10, places, &[6]);
+}
+
+// Covers over tables that no hierarchy has. Past the end of a table stands 0, and so does the interval of a call without names.
+fn other_covers() {
+    cover(b"[5,6] [1,9], cover {1}", 2, &[5, 6, 1, 9], &[1]);
+    cover(b"[5,6] [1,9], n = 1, cover {1}", 1, &[5, 6, 1, 9], &[1]);
+    cover(b"[5,6] [1,9], n = 0, cover {1}", 0, &[5, 6, 1, 9], &[1]);
+    cover(
+        b"[1,9] [4,4] [4,4], cover {2}",
+        3,
+        &[1, 9, 4, 4, 4, 4],
+        &[2],
+    );
+    cover(b"[9,1] [3,3], cover {0}", 2, &[9, 1, 3, 3], &[0]);
+    cover(
+        b"[3,4] [1,1], n = 2^64-1, cover {}",
+        18446744073709551615,
+        &[3, 4, 1, 1],
+        &[],
+    );
+    cover(
+        b"[3,4] 0, n = 2^64-1, cover {}",
+        18446744073709551615,
+        &[3, 4, 0],
+        &[],
+    );
 }
 
 // Table T: its intervals and covers.
@@ -320,7 +347,8 @@ fn table_t() {
         first_intervals(&places, 10);
         scratch_line(&scratch);
     }
-    covers(&places, &edges);
+    covers(&places);
+    other_covers();
 }
 
 // All cases of this layer.

@@ -11,11 +11,13 @@ use borrow.Author.Tests.{eqb-true, ne-eqb, lt-ltb, le-ltb, ltb-true, ltb-false, 
 use Rattle.intervals.specs.Lists.{allBelow, anyBelow}
 use Rattle.intervals.specs.Answer.{Check, _when_, refusal}
 use Rattle.intervals.specs.Hierarchy.{edgesOf, someEdge, sizeWrong, edgesTooMany, edgeWrong}
-use Rattle.intervals.specs.Cover.{intervalAt}
+use Rattle.intervals.specs.Cover.{intervalAt, callInterval}
 use Rattle.intervals.specs.declared.Interval.{Interval}
 use Rattle.intervals.proofs.Bools.{bool, not-both, and-left, and-right, and-both, or-left, or-right, over-not, three-not}
 use Rattle.intervals.proofs.Bounded.{all-at, all-of, any-none}
 use Rattle.intervals.proofs.Refusals.{refused-here, refused-later, NoneHolds, refusal-none}
+use Rattle.intervals.proofs.Legals.{right-size}
+use Rattle.intervals.proofs.Covers.{closest-below}
 use Rattle.desk.specs.declared.Mode.{Mode}
 use Rattle.desk.specs.declared.Lock.{Lock}
 use Rattle.desk.specs.declared.Stage.{Stage}
@@ -23,7 +25,7 @@ use Rattle.desk.specs.declared.Stage.the-variants.{Out, Waiting, Holding
 use Rattle.desk.specs.declared.Entry.{Entry}
 use Rattle.desk.specs.declared.Desk.{Desk}
 use Rattle.desk.specs.Locks.{realInterval}
-use Rattle.desk.specs.Desks.{Hierarchy, lent, lowIn, highIn, stageAt, listedAt, isOut, isWaiting}
+use Rattle.desk.specs.Desks.{Hierarchy, lent, lowIn, highIn, coverIn, stageAt, listedAt, isOut, isWaiting}
 use Rattle.desk.specs.Sound.{listsParties, listsOnce, isListed, listsWaiting, ofLock, lockReal, intervalsReal, coverRight, coversRight, holdersApart, heldUp, waitersHeldUp, soundDesk}
 use Rattle.desk.specs.Steps.{tablesShort, intervalWrong, stepChecks, lockOn, insideHold}
 use Rattle.desk.specs.Inner.{outside, entriesRight, refusalAfter, spanned, Judged, nodeChecks, NodeJudged}
@@ -216,6 +218,12 @@ module _ (H : Hierarchy) (d : Desk) (party : ℕ) (short : Bool) (k : ℕ) (e : 
       let four = and-left (listsParties d && listsOnce d && listsWaiting d && intervalsReal d) (coversRight H d) five in
       let three = and-left (listsParties d && listsOnce d && listsWaiting d) (intervalsReal d) four in
       lists-few d (and-left (listsParties d) (listsOnce d) (and-left (listsParties d && listsOnce d) (listsWaiting d) three))
+
+  -- a cover is a node, and so fits where a lock keeps it
+  pub cover-below : (names : List ℕ) → coverIn H names < 256
+  cover-below names =
+      let size = right-size (H .n) (none-holds .1 .0) in
+      omega (arith, size .1, closest-below (H .intervals) (callInterval (H .intervals) names) (H .n) (size .0))
 
   pub party-below : party < 32
   party-below = let h = ltb-false 31 party (none-holds .1 .1 .1 .1 .1 .0) in omega arith

@@ -4,7 +4,6 @@ use mathlib.Core.Bool.{Bool, true, false}
 use Prim.Native.Nat.{ℕ}
 use lib.ListN.{getD, take, replicate}
 use Rattle.intervals.specs.Lists.{anyBelow, any}
-use Rattle.intervals.specs.Hierarchy.{edgesOf}
 use Rattle.intervals.specs.Cover.{lowAt, highAt, coverOf}
 use Rattle.desk.specs.declared.Lock.{Lock}
 use Rattle.desk.specs.declared.Stage.{Stage}
@@ -34,7 +33,7 @@ highIn H node = highAt (H .intervals) node
 
 -- the cover of a call that names these nodes
 abbrev pub coverIn : Hierarchy → List ℕ → ℕ
-coverIn H names = coverOf (H .intervals) (edgesOf (H .edges) (H .edgeCount)) names
+coverIn H names = coverOf (H .n) (H .intervals) names
 
 -- the entry of a party at a stage
 abbrev pub entryOf : Stage → Entry

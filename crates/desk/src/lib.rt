@@ -772,13 +772,13 @@ impl Desk {
                 answer: EnterAnswer::Refused(15),
             };
         }
-        let c = intervals::cover(intervals, edges, count, &names[..named]);
-        let l = lock_on(intervals, mode, c);
+        let c = intervals::cover(n, intervals, &names[..named]);
+        let l = lock_on(intervals, mode, c as u16);
         if self.is_free(l) {
             let d = self.granted(party, l);
             return EnterStep {
                 desk: d,
-                answer: EnterAnswer::Granted(c as usize),
+                answer: EnterAnswer::Granted(c),
             };
         }
         let d = self.queued(party, l);

@@ -454,7 +454,7 @@ fn granting(d: Desk, grants: u32) -> Desk {
     next
 }
 
-// The desk after the first four steps of the listing: 1 and 3 hold, 2 and 4 wait.
+// The desk after the first four steps of the short visit: 1 and 3 hold, 2 and 4 wait.
 fn four_steps() -> Desk {
     let d1 = holding(Desk::fresh(), 1, writing(5, 3, 3));
     let d2 = queued(d1, 2, reading(2, 3, 4));
@@ -646,10 +646,10 @@ fn all_four(
 
 // Good visits on table T, and the grant count at its stop.
 
-// The listing's first steps, get and put in them, and newcomers that meet waiters.
+// The listing's first steps with a reader of 6 for that of 8, get and put in them, and newcomers that meet waiters.
 fn first() -> Desk {
     let d1 = enter(Desk::fresh(), 1, Mode::Writing, &[7]);
-    let d2 = enter(d1, 2, Mode::Reading, &[8]);
+    let d2 = enter(d1, 2, Mode::Reading, &[6]);
     let d3 = enter(d2, 3, Mode::Reading, &[3]);
     enter(d3, 4, Mode::Reading, &[4, 5])
 }
@@ -711,6 +711,26 @@ fn in_arrival_order() {
     leave(d6, 4);
 }
 
+// A ward in record 8 is not held up by a writer of 7, and sees its own record.
+fn own_record() -> Desk {
+    let d1 = enter(Desk::fresh(), 1, Mode::Writing, &[7]);
+    let d2 = enter(d1, 2, Mode::Reading, &[8]);
+    let mut values = [100u64; 10];
+    get(d2, 2, 8, &values);
+    get(d2, 2, 9, &values);
+    put(d2, 2, 9, 5, &mut values);
+    d2
+}
+
+// A name given twice is one record; two records are held up by all of their cover.
+fn behind(d: Desk) {
+    let d1 = enter(d, 3, Mode::Writing, &[8, 8]);
+    let d2 = enter(d1, 4, Mode::Reading, &[4, 5]);
+    let d3 = leave(d2, 1);
+    let d4 = leave(d3, 2);
+    leave(d4, 3);
+}
+
 // 31 wait for one: all readers go at once, of the writers one.
 fn all_waiting() {
     leave(full(reading(0, 1, 4)), 0);
@@ -761,6 +781,9 @@ fn grants() {
 fn run_visits() {
     text(b"A SHORT VISIT\n");
     short_visit();
+    text(b"A RECORD'S OWN COVER\n");
+    let d = own_record();
+    behind(d);
     text(b"ARRIVAL ORDER\n");
     in_arrival_order();
     all_waiting();
@@ -770,7 +793,7 @@ fn run_visits() {
 
 // Rows 11 to 17 of the table of refusals, and row 1 where what one step alone is lent is short. Where two apply, the lower is given.
 
-// The desk after the listing's first four steps.
+// The desk after the short visit's first four steps.
 fn row_desk() -> Desk {
     four_steps()
 }
@@ -1204,7 +1227,7 @@ fn on(what: &[u8], d: Desk) {
     all_four(what, d, 10, &intervals, &edges, 11, &mut values);
 }
 
-// The desk after the listing's first four steps: 1 and 3 hold, 2 and 4 wait in this order.
+// The desk after the short visit's first four steps: 1 and 3 hold, 2 and 4 wait in this order.
 fn unsound_desk() -> Desk {
     four_steps()
 }

@@ -6,7 +6,7 @@ use Rattle.intervals.specs.Answer.{refusal}
 use Rattle.intervals.specs.Hierarchy.{children, someEdge, spread, spreads, reach, edgeTwice, someUnreached}
 use Rattle.intervals.specs.Numbering.{meet, visit, inside, walk, numbering}
 use Rattle.intervals.specs.Intervals.{numbersAmong, lowOf, highOf, intervalsFrom, intervalTable}
-use Rattle.intervals.specs.Cover.{firstWithin, searchFrom, coverOfInterval}
+use Rattle.intervals.specs.Cover.{closest}
 use Rattle.intervals.specs.Build.{buildStep}
 use Rattle.blocks.specs.Fletcher.{words, sums, fletcher}
 use Rattle.blocks.specs.Record.{enterRight, recordRight}
@@ -23,5 +23,5 @@ unfolding allBelow anyBelow every any tails keep count over refusal children som
 all-edges = refl
 
 pub all-step-edges : passes stepEdges ≡ true
-unfolding allBelow anyBelow every any tails keep count over foldFrom least greatest refusal children someEdge spread spreads reach edgeTwice someUnreached meet visit inside walk numbering numbersAmong lowOf highOf intervalsFrom intervalTable firstWithin searchFrom coverOfInterval buildStep words sums fletcher enterRight recordRight inOrder afterRecord afterRecords countRight headRight afterBlock recordsIn blockBody blockOf afterBlocks recordsOf notBlocks blocksOf soundDesk enterStep getStep putStep offer sweep leaveStep eachRecord edgeTable perform also performAll runRecords runFile sameNumbers asNumbers sameAnswers wrote disjoint gave passes fileEdges stepEdges
+unfolding allBelow anyBelow every any tails keep count over foldFrom least greatest refusal children someEdge spread spreads reach edgeTwice someUnreached meet visit inside walk numbering numbersAmong lowOf highOf intervalsFrom intervalTable closest buildStep words sums fletcher enterRight recordRight inOrder afterRecord afterRecords countRight headRight afterBlock recordsIn blockBody blockOf afterBlocks recordsOf notBlocks blocksOf soundDesk enterStep getStep putStep offer sweep leaveStep eachRecord edgeTable perform also performAll runRecords runFile sameNumbers asNumbers sameAnswers wrote disjoint gave passes fileEdges stepEdges
 all-step-edges = refl

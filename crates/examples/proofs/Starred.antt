@@ -6,7 +6,7 @@ use Rattle.intervals.specs.Answer.{refusal}
 use Rattle.intervals.specs.Hierarchy.{children, someEdge, spread, spreads, reach, edgeTwice, someUnreached}
 use Rattle.intervals.specs.Numbering.{meet, visit, inside, walk, numbering}
 use Rattle.intervals.specs.Intervals.{numbersAmong, lowOf, highOf, intervalsFrom, intervalTable}
-use Rattle.intervals.specs.Cover.{firstWithin, searchFrom, coverOfInterval}
+use Rattle.intervals.specs.Cover.{closest}
 use Rattle.intervals.specs.Build.{buildStep}
 use Rattle.blocks.specs.Fletcher.{words, sums, fletcher}
 use Rattle.blocks.specs.Record.{enterRight, recordRight}
@@ -19,5 +19,5 @@ use Rattle.examples.specs.Cases.{sameNumbers, asNumbers, sameAnswers, wr
 use Rattle.examples.specs.Table.{fileT, fileShared, starred}
 
 pub all-starred : every passes starred ≡ true
-unfolding allBelow anyBelow every any tails keep count over foldFrom least greatest refusal children someEdge spread spreads reach edgeTwice someUnreached meet visit inside walk numbering numbersAmong lowOf highOf intervalsFrom intervalTable firstWithin searchFrom coverOfInterval buildStep words sums fletcher enterRight recordRight inOrder afterRecord afterRecords countRight headRight afterBlock recordsIn blockBody blockOf afterBlocks recordsOf notBlocks blocksOf soundDesk enterStep getStep putStep offer sweep leaveStep eachRecord edgeTable perform also performAll runRecords runFile sameNumbers asNumbers sameAnswers wrote disjoint gave passes fileT fileShared starred
+unfolding allBelow anyBelow every any tails keep count over foldFrom least greatest refusal children someEdge spread spreads reach edgeTwice someUnreached meet visit inside walk numbering numbersAmong lowOf highOf intervalsFrom intervalTable closest buildStep words sums fletcher enterRight recordRight inOrder afterRecord afterRecords countRight headRight afterBlock recordsIn blockBody blockOf afterBlocks recordsOf notBlocks blocksOf soundDesk enterStep getStep putStep offer sweep leaveStep eachRecord edgeTable perform also performAll runRecords runFile sameNumbers asNumbers sameAnswers wrote disjoint gave passes fileT fileShared starred
 all-starred = refl

@@ -80,7 +80,7 @@ written records = fileOf (flat records) (length records)
 -- THE TEST
 unfoldable pub passes : Case → Bool
 passes (intervals n edges expected) = wrote (built n edges) expected
-passes (cover n edges names expected) = eqb (coverOf ((built n edges) .places) edges names) expected
+passes (cover n edges names expected) = eqb (coverOf n ((built n edges) .places) names) expected
 passes (apart n edges first second low high records answers holders waiters grants) =
     disjoint (reach n edges first) (reach n edges second)
     && eqb (lowAt ((built n edges) .places) first) low && eqb (highAt ((built n edges) .places) first) high

@@ -76,7 +76,7 @@ starred =
     ∷ cover 10 T (7 ∷ 8 ∷ []) 2
     ∷ cover 10 T (9 ∷ []) 5
     ∷ cover 10 T (4 ∷ 5 ∷ []) 0
-    ∷ cover 10 T (8 ∷ []) 2
+    ∷ cover 10 T (8 ∷ []) 8
     -- n = 1, no edge
     ∷ intervals 1 [] (1 ∷ 1 ∷ [])
     -- edges 0→1, 1→3, 1→2, 2→1
@@ -85,6 +85,6 @@ starred =
     ∷ apart 5 shared 4 2 1 3 fileShared (granted 0 ∷ waits ∷ []) 1 1 1
     -- the listing of T: ten answers, and the end's three numbers
     ∷ listing fileT
-    (granted 5 ∷ waits ∷ granted 3 ∷ waits ∷ stored ∷ left (2 ∷ 4 ∷ []) ∷ value 77 ∷ waits ∷ refused 17 ∷ left [] ∷ [])
+    (granted 5 ∷ granted 8 ∷ granted 3 ∷ waits ∷ stored ∷ left (4 ∷ []) ∷ refused 16 ∷ waits ∷ refused 16 ∷ left [] ∷ [])
     3 0 4
     ∷ []

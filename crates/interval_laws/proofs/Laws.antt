@@ -1,30 +1,28 @@
 -- THEOREMS, for every legal hierarchy. Least and greatest number are over the reach as a relation of paths. Assumes nothing.
 use mathlib.Core.Path.{_≡_, refl, sym, ap, _∙_, subst}
 use mathlib.Core.List.{List, [], _∷_, _++_, map}
-use mathlib.Core.Bool.{Bool, true, false, _&&_, _||_}
+use mathlib.Core.Bool.{true, _||_}
 use mathlib.Core.Option.{Option, none, some}
 use Prim.Native.Nat.{ℕ, zero, suc, _+_, _*_, _≤_, _<_}
 use native.Mathlib.Omega.{arith}
-use lib.Dec.{leb, ltb}
+use lib.Dec.{ltb}
 use lib.ListN.{length, getD, take, drop}
 use lib.Seq.{take-append-seam}
-use borrow.Author.Tests.{le-leb, ltb-false}
+use borrow.Author.Tests.{ltb-false}
 use Rattle.intervals.specs.Lists.{least, greatest, over}
 use Rattle.intervals.specs.Answer.{Answer, done, _when_, answerOf}
-use Rattle.intervals.specs.Hierarchy.{edgesOf, children, Edge, Reach, reach, hierarchyChecks, Legal}
+use Rattle.intervals.specs.Hierarchy.{edgesOf, Edge, Reach, reach, hierarchyChecks, Legal}
 use Rattle.intervals.specs.Hierarchy.Reach.{self, step}
 use Rattle.intervals.specs.Numbering.{numbering}
 use Rattle.intervals.specs.Intervals.{lowOf, highOf, intervalsFrom, intervalTable}
-use Rattle.intervals.specs.Cover.{lowAt, highAt, intervalAt, callInterval, contains, firstWithin, coverOfInterval, coverOf}
+use Rattle.intervals.specs.Cover.{lowAt, highAt, callInterval}
 use Rattle.intervals.specs.Build.{buildShort, buildRefusal, placesAfter, buildStep}
-use Rattle.intervals.specs.declared.Interval.{Interval}
-use Rattle.intervals.proofs.Bools.{and-both, or-left, or-right, not-both}
+use Rattle.intervals.proofs.Bools.{or-left, or-right, not-both}
 use Rattle.intervals.proofs.Refusals.{refused-later, refusal-none}
 use Rattle.intervals.proofs.Members.{In, head, tail, in-nil, in-cons, least-most, least-is, greatest-least, greatest-is}
 use Rattle.intervals.proofs.Reaches.{reach-all, reach-only, reach-within}
 use Rattle.intervals.proofs.Legals.{Promise, promised}
 use Rattle.intervals.proofs.Extremes.{reach-numbered as numbered-in, low-most as least-low, low-is as least-is-low, high-least as greatest-high, high-is as greatest-is-high}
-use Rattle.intervals.proofs.Covers.{search-ends, search-is}
 use Rattle.interval_laws.proofs.Numbers.{numbering-most, numbering-once}
 
 -- a way goes on where another ends
@@ -80,7 +78,8 @@ pub built-high : (n : ℕ) (es : List ℕ) (node : ℕ) → node < n → highAt 
 unfolding intervalTable
 built-high n es node h = let e : 0 + node ≡ node = omega arith in table-at n es n 0 node h .1 ∙ ap (highOf n es) e
 
-map-is : (f : ℕ → ℕ) (P : ℕ → Type 0) (names : List ℕ) → ((r : ℕ) → In r names → P (f r)) → (y : ℕ) → In y (map f names) → P y
+-- what holds of the image of each holds of all that is mapped to
+pub map-is : (f : ℕ → ℕ) (P : ℕ → Type 0) (names : List ℕ) → ((r : ℕ) → In r names → P (f r)) → (y : ℕ) → In y (map f names) → P y
 map-is f P [] g y i = in-nil i
 map-is f P (r ∷ rs) g y i = in-cons i (λ e. subst P e (g r head)) (map-is f P rs (λ q j. g q (tail j)) y)
 
@@ -187,41 +186,6 @@ module _ (n : ℕ) (table : List ℕ) (edgeCount : ℕ) (legal : Legal n table e
         in-first = (low-most a ha (f .0) (reach-on v (f .1)) (f .2), high-least a ha (f .0) (reach-on v (f .1)) (f .2));
         in-second = (low-most b hb (f .0) (reach-on w (f .1)) (f .2), high-least b hb (f .0) (reach-on w (f .1)) (f .2));
       }
-
-  -- THE COVER of a call, over the built table
-  abbrev built : List ℕ
-  built = intervalTable n es
-
-  -- the root's interval contains the call's
-  root-contains : (name : ℕ) (names : List ℕ) → ((r : ℕ) → In r (name ∷ names) → r < n) → contains (intervalAt built 0) (callInterval built (name ∷ names)) ≡ true
-  root-contains name names below =
-      let low : (r : ℕ) → In r (name ∷ names) → lowAt built 0 ≤ lowAt built r
-      = λ r i. omega (arith, built-low n es 0 (promise .some), built-low n es r (below r i), interval-inside-root r (below r i) .low-end) in
-      let high : (r : ℕ) → In r (name ∷ names) → highAt built r ≤ highAt built 0
-      = λ r i. omega (arith, built-high n es 0 (promise .some), built-high n es r (below r i), interval-inside-root r (below r i) .high-end) in
-      and-both (leb (lowAt built 0) (least (map (lowAt built) (name ∷ names)))) (leb (greatest (map (highAt built) (name ∷ names))) (highAt built 0))
-      (le-leb (lowAt built 0) (least (map (lowAt built) (name ∷ names)))
-      (least-is (λ k. lowAt built 0 ≤ k) (lowAt built name) (map (lowAt built) (name ∷ names)) head (map-is (lowAt built) (λ k. lowAt built 0 ≤ k) (name ∷ names) low)))
-      (le-leb (greatest (map (highAt built) (name ∷ names))) (highAt built 0)
-      (greatest-is (λ k. k ≤ highAt built 0) (highAt built name) (map (highAt built) (name ∷ names)) head (map-is (highAt built) (λ k. k ≤ highAt built 0) (name ∷ names) high)))
-
-  -- the cover's interval contains the call's
-  pub cover-contains : (name : ℕ) (names : List ℕ) → ((r : ℕ) → In r (name ∷ names) → r < n) → contains (intervalAt built (coverOf built es (name ∷ names))) (callInterval built (name ∷ names)) ≡ true
-  unfolding coverOfInterval
-  cover-contains name names below =
-      search-is built es (callInterval built (name ∷ names)) (λ (r : ℕ). contains (intervalAt built r) (callInterval built (name ∷ names)) ≡ true)
-      (λ present child e around p. around) _ 0 (root-contains name names below)
-
-  -- the cover is a node
-  pub cover-below : (names : List ℕ) → coverOf built es names < n
-  unfolding coverOfInterval
-  cover-below names = search-is built es (callInterval built names) (λ (r : ℕ). r < n) (λ present child e around p. ends present child e) _ 0 (promise .some)
-
--- the cover search ends with any tables whatever: from the cover no step leads on
-pub cover-ends : (table es : List ℕ) (call : Interval)
-    → firstWithin table call (coverOfInterval table es call) (children es (coverOfInterval table es call)) ≡ none
-unfolding coverOfInterval
-cover-ends table es call = search-ends table es call _ 0 (omega arith)
 
 -- WHAT BUILDING TAKES AND WRITES. Where it answers unrefused, the hierarchy is legal, nothing was short, and the places begin with the intervals
 pub record Taken (n : ℕ) (edges : List ℕ) (edgeCount : ℕ) (places scratch : List ℕ) : Type 0 where

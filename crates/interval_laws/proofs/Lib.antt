@@ -1,3 +1,4 @@
--- What every legal hierarchy promises: Laws has the theorems, Numbers what they rest on of the numbering.
+-- What every legal hierarchy promises: Laws and Covers have the theorems, Numbers what they rest on of the numbering.
 pub mod Numbers
 pub mod Laws
+pub mod Covers

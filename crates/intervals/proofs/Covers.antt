@@ -1,102 +1,154 @@
--- The cover search, over tables of any contents: it ends, and what it ends in contains the call's interval where its start does. Assumes nothing.
+-- The narrowest cover, over interval tables of any contents, and the call's interval, widened by one name after another. Assumes nothing.
 use mathlib.Core.Path.{_≡_, refl, sym, ap, _∙_, subst}
 use mathlib.Core.List.{List, [], _∷_, map}
-use mathlib.Core.Bool.{true, _&&_}
-use mathlib.Core.Option.{Option, none, some}
-use Prim.Native.Nat.{ℕ, zero, suc, _+_, _≤_, _<_, min, max}
+use mathlib.Core.Bool.{Bool, true, false, not, cond, _&&_, _||_}
+use Prim.Native.Nat.{ℕ, zero, suc, _+_, _-_, _*_, _/_, _≤_, _<_, min, max}
+use native.Mathlib.Numerals.{add-one}
 use native.Mathlib.Omega.{arith}
 use lib.Dec.{ltb}
 use lib.ListN.{length, getD, drop, drop-of-length-le}
-use borrow.Author.Tests.{ltb-true}
-use Rattle.intervals.specs.Hierarchy.{children, Edge}
+use borrow.Author.Tests.{ltb-true, ltb-false, not-true}
 use Rattle.intervals.specs.Lists.{foldFrom, least, greatest}
-use Rattle.intervals.specs.Cover.{lowAt, highAt, intervalAt, callInterval, contains, width, firstWithin, stepOr, searchFrom}
+use Rattle.intervals.specs.Cover.{lowAt, highAt, intervalAt, callInterval, contains, width, closer, closerOf, closest}
 use Rattle.intervals.specs.declared.Interval.{Interval}
-use Rattle.intervals.proofs.Bools.{bool, and-left, and-right, not-both}
+use Rattle.intervals.proofs.Bools.{bool, not-both, and-left, and-right, or-either}
 use Rattle.intervals.proofs.Loops.{drop-step}
-use Rattle.intervals.proofs.Members.{In, head, tail, edge-of}
+use Rattle.intervals.proofs.Marks.{past}
 
--- a child that the search steps to
-pub record Within (table : List ℕ) (call : Interval) (present : ℕ) (cs : List ℕ) (child : ℕ) : Type 0 where
-  pub member : In child cs
-  pub around : contains (intervalAt table child) call ≡ true
-  pub narrower : width (intervalAt table child) < width (intervalAt table present)
+module _ (table : List ℕ) (call : Interval) where
+  abbrev around : ℕ → Bool
+  around r = contains (intervalAt table r) call
 
-pub first-within : (table : List ℕ) (call : Interval) (present : ℕ) (cs : List ℕ) (child : ℕ) → firstWithin table call present cs ≡ some child → Within table call present cs child
-unfolding firstWithin
-first-within table call present [] child e = not-both true refl cc
-first-within table call present (c ∷ cs) child e =
-    bool (contains (intervalAt table c) call && ltb (width (intervalAt table c)) (width (intervalAt table present)))
-    (λ t. subst (λ (x : ℕ). Within table call present (c ∷ cs) x) (let s = rw t at e in cc)
-    (record {
-      member = head;
-      around = and-left (contains (intervalAt table c) call) (ltb (width (intervalAt table c)) (width (intervalAt table present))) t;
-      narrower = ltb-true (width (intervalAt table c)) (width (intervalAt table present)) (and-right (contains (intervalAt table c) call) (ltb (width (intervalAt table c)) (width (intervalAt table present))) t);
-    }))
-    (λ t. let w = first-within table call present cs child (rw t at e) in
-    record { member = tail (w .member); around = w .around; narrower = w .narrower })
+  abbrev wide : ℕ → ℕ
+  wide r = width (intervalAt table r)
 
--- nothing is narrower than what has no width
-module _ (table es : List ℕ) (call : Interval) where
-  abbrev onward : ℕ → Option ℕ
-  onward present = firstWithin table call present (children es present)
+  -- c is the cover among the nodes below k
+  pub record Closest (k c : ℕ) : Type 0 where
+    pub below : c ≤ k - 1
+    pub around-too : (r : ℕ) → r < k → around r ≡ true → around c ≡ true
+    pub narrowest : (r : ℕ) → r < k → around r ≡ true → wide c ≤ wide r
+    pub lowest : (r : ℕ) → r < k → around r ≡ true → wide r ≡ wide c → c ≤ r
+    pub root : ((r : ℕ) → r < k → around r ≡ false) → c ≡ 0
 
-  pub option : {P : Type 0} (o : Option ℕ) → (o ≡ none → P) → ((child : ℕ) → o ≡ some child → P) → P
-  option none f g = f refl
-  option (some child) f g = g child refl
+  -- below k + 1 is k, or below k
+  last-or : {P : Type 0} (r k : ℕ) → r < suc k → (r ≡ k → P) → (r < k → P) → P
+  last-or r k h f g = bool (ltb r k) (λ e. g (ltb-true r k e)) (λ e. f (let d = ltb-false r k e in omega arith))
 
-  -- one step of the search, by what it finds
-  pub search-stop : (k present : ℕ) → onward present ≡ none → searchFrom k table es call present ≡ present
-  unfolding searchFrom
-  search-stop zero present e = refl
-  search-stop (suc k) present e = ap (stepOr (searchFrom k table es call) present) e
+  -- k is closer than the best so far
+  closest-yes : (k c : ℕ) → Closest k c → around k ≡ true → (around c ≡ true → wide k < wide c) → Closest (suc k) k
+  closest-yes k c b a n =
+      let wider : (r : ℕ) → r < k → around r ≡ true → wide k < wide r = λ r l h. omega (arith, n (b .around-too r l h), b .narrowest r l h) in
+      record {
+        below = omega arith;
+        around-too = λ r l h. a;
+        narrowest = λ r l h. last-or r k l (λ e. rw e (omega arith)) (λ m. omega (arith, wider r m h));
+        lowest = λ r l h q. last-or r k l (λ e. omega (arith, e)) (λ m. absurd (omega (arith, wider r m h, q)));
+        root = λ f. not-both (around k) a (f k (omega arith));
+      }
 
-  pub search-step : (k present child : ℕ) → onward present ≡ some child → searchFrom (suc k) table es call present ≡ searchFrom k table es call child
-  unfolding searchFrom
-  search-step k present child e = ap (stepOr (searchFrom k table es call) present) e
+  -- or it is not
+  closest-no : (k c : ℕ) → Closest k c → (around k ≡ true → (around c ≡ true) × (wide c ≤ wide k)) → Closest (suc k) c
+  closest-no k c b n =
+      record {
+        below = omega (arith, b .below);
+        around-too = λ r l h. last-or r k l (λ e. n (subst (λ (x : ℕ). around x ≡ true) e h) .0) (λ m. b .around-too r m h);
+        narrowest = λ r l h. last-or r k l (λ e. rw e (n (subst (λ (x : ℕ). around x ≡ true) e h) .1)) (λ m. b .narrowest r m h);
+        lowest = λ r l h q. last-or r k l (λ e. omega (arith, b .below, e)) (λ m. b .lowest r m h q);
+        root = λ f. b .root (λ r l. f r (omega arith));
+      }
 
-  pub narrowed : (present child : ℕ) → onward present ≡ some child → width (intervalAt table child) < width (intervalAt table present)
-  narrowed present child e = first-within table call present (children es present) child e .narrower
+  -- a test that fails though k's interval contains the call's
+  neither : (a b c : Bool) → a ≡ true → (a && (not b || c)) ≡ false → (b ≡ true) × (c ≡ false)
+  neither true true c p q = (refl, q)
+  neither true false c p q = not-both true refl q
+  neither false b c p q = not-both false p refl
 
-  -- as many steps as the present interval is wide are enough: from what is found no step leads on
-  pub search-ends : (k present : ℕ) → width (intervalAt table present) ≤ k → onward (searchFrom k table es call present) ≡ none
-  unfolding searchFrom
-  search-ends zero present h = option (onward present) (λ e. e) (λ child e. absurd (omega (arith, narrowed present child e)))
-  search-ends (suc k) present h =
-      option (onward present)
-      (λ e. rw (search-stop (suc k) present e) e)
-      (λ child e. rw (search-step k present child e) (search-ends k child (omega (arith, narrowed present child e))))
+  closest-more : (k c : ℕ) → Closest k c → Closest (suc k) (closerOf table call k c)
+  closest-more k c b =
+      bool (closer call (intervalAt table k) (intervalAt table c))
+      (λ t. rw t
+      (closest-yes k c b (and-left (around k) (not (around c) || ltb (wide k) (wide c)) t)
+      (λ a. or-either (not (around c)) (ltb (wide k) (wide c)) (and-right (around k) (not (around c) || ltb (wide k) (wide c)) t)
+      (λ q. not-both (around c) a (not-true (around c) q))
+      (ltb-true (wide k) (wide c)))))
+      (λ t. rw t
+      (closest-no k c b (λ a. let q = neither (around k) (around c) (ltb (wide k) (wide c)) a t in (q .0, ltb-false (wide k) (wide c) (q .1)))))
 
-  -- more steps change nothing
-  pub search-more : (j k present : ℕ) → width (intervalAt table present) ≤ j → width (intervalAt table present) ≤ k
-      → searchFrom j table es call present ≡ searchFrom k table es call present
-  search-more zero k present h g =
-      option (onward present)
-      (λ e. search-stop zero present e ∙ sym (search-stop k present e))
-      (λ child e. absurd (omega (arith, narrowed present child e)))
-  search-more (suc j) zero present h g =
-      option (onward present)
-      (λ e. search-stop (suc j) present e ∙ sym (search-stop zero present e))
-      (λ child e. absurd (omega (arith, narrowed present child e)))
-  search-more (suc j) (suc k) present h g =
-      option (onward present)
-      (λ e. search-stop (suc j) present e ∙ sym (search-stop (suc k) present e))
-      (λ child e.
-      search-step j present child e
-      ∙ search-more j k child (omega (arith, narrowed present child e)) (omega (arith, narrowed present child e))
-      ∙ sym (search-step k present child e))
+  -- the definition finds it
+  pub closest-is : (k : ℕ) → Closest k (closest k table call)
+  unfolding closest
+  closest-is zero =
+      record {
+        below = omega arith;
+        around-too = λ r l h. absurd (omega arith);
+        narrowest = λ r l h. absurd (omega arith);
+        lowest = λ r l h q. absurd (omega arith);
+        root = λ f. refl;
+      }
+  closest-is (suc k) = closest-more k (closest k table call) (closest-is k)
 
-  -- what holds at the start, and of each child whose interval contains the call's, holds of what is found
-  pub search-is : (P : ℕ → Type 0) → ((present child : ℕ) → Edge es present child → contains (intervalAt table child) call ≡ true → P present → P child)
-      → (k present : ℕ) → P present → P (searchFrom k table es call present)
-  unfolding searchFrom
-  search-is P f zero present p = p
-  search-is P f (suc k) present p =
-      option (onward present)
-      (λ e. subst P (sym (search-stop (suc k) present e)) p)
-      (λ child e.
-      let w = first-within table call present (children es present) child e in
-      subst P (sym (search-step k present child e)) (search-is P f k child (f present child (edge-of es present child (w .member)) (w .around) p)))
+  -- it is a node
+  pub closest-below : (n : ℕ) → 1 ≤ n → closest n table call < n
+  closest-below n h = omega (arith, closest-is n .below)
+
+  -- THE LOOP: it has the best of the first k nodes and its interval
+  pub record Looking (k best : ℕ) (at : Interval) : Type 0 where
+    pub found : best ≡ closest k table call
+    pub interval : at ≡ intervalAt table best
+
+  pub looking-start : {at : Interval} → at ≡ intervalAt table 0 → Looking 0 0 at
+  unfolding closest
+  looking-start e = record { found = refl; interval = e }
+
+  -- node k, with the interval that was read, is closer, or it is not
+  module _ (k best : ℕ) (at here : Interval) (l : Looking k best at) (of-k : here ≡ intervalAt table k) where
+    turn : (t : Bool) → closer call here at ≡ t → cond t k best ≡ closest (k + 1) table call
+    unfolding closest
+    turn t e =
+        rw (add-one k)
+        (rw (← e, of-k, l .interval)
+        (ap (λ (b : ℕ). closerOf table call k b) (l .found)))
+
+    pub looking-closer : closer call here at ≡ true → Looking (k + 1) k here
+    looking-closer t = record { found = turn true t; interval = of-k }
+
+    pub looking-past : closer call here at ≡ false → Looking (k + 1) best at
+    looking-past t = record { found = turn false t; interval = l .interval }
+
+  -- past the table all intervals are alike, so that the first node there stands for all
+  past-same : (r s : ℕ) → length table ≤ 2 * r → length table ≤ 2 * s → intervalAt table r ≡ intervalAt table s
+  past-same r s h g =
+      rw (past table (2 * r) 0 h, past table (2 * s) 0 g, past table (2 * r + 1) 0 (omega arith), past table (2 * s + 1) 0 (omega arith))
+
+  closest-past : (k r : ℕ) → length table ≤ 2 * r → r < k → closest (suc k) table call ≡ closest k table call
+  unfolding closest
+  closest-past k r h l =
+      let c = closest k table call in
+      let same = past-same k r (omega arith) h in
+      bool (closer call (intervalAt table k) (intervalAt table c))
+      (λ t.
+      let a = subst (λ (x : Interval). contains x call ≡ true) same (and-left (around k) (not (around c) || ltb (wide k) (wide c)) t) in
+      or-either (not (around c)) (ltb (wide k) (wide c)) (and-right (around k) (not (around c) || ltb (wide k) (wide c)) t)
+      (λ q. not-both (around c) (closest-is k .around-too r l a) (not-true (around c) q))
+      (λ q. absurd (omega (arith, ltb-true (wide k) (wide c) q, closest-is k .narrowest r l a, ap width same))))
+      (λ t. ap (λ (x : Bool). cond x k c) t)
+
+  closest-stays : (m n r : ℕ) → length table ≤ 2 * r → r < m → m ≤ n → closest n table call ≡ closest m table call
+  closest-stays m zero r h l g = absurd (omega arith)
+  closest-stays m (suc n) r h l g =
+      bool (ltb n m)
+      (λ t. ap (λ (k : ℕ). closest k table call) (let q = ltb-true n m t in omega arith))
+      (λ t. let q = ltb-false n m t in closest-past n r h (omega arith) ∙ closest-stays m n r h l q)
+
+  -- a look at so many is enough
+  pub looked : (n : ℕ) → closest (min n (length table / 2 + 2)) table call ≡ closest n table call
+  looked n =
+      bool (ltb n (length table / 2 + 2))
+      (λ t. ap (λ (k : ℕ). closest k table call) (let q = ltb-true n (length table / 2 + 2) t in omega arith))
+      (λ t.
+      let q = ltb-false n (length table / 2 + 2) t in
+      let e : min n (length table / 2 + 2) ≡ length table / 2 + 2 = omega arith in
+      rw e (sym (closest-stays (length table / 2 + 2) n (length table / 2 + 1) (omega arith) (omega arith) q)))
 
 -- THE CALL'S INTERVAL: an interval widened to those of the names
 module _ (table : List ℕ) where

@@ -11,8 +11,6 @@ pub mod Loops
 pub mod Bounded
 pub mod Distinct
 pub mod EdgeLoops
-pub mod Searches
-pub mod Onwards
 pub mod Repeats
 pub mod Passes
 pub mod Judges

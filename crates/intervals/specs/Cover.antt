@@ -1,12 +1,10 @@
--- The call's interval and its cover (004, Algorithm 3, altered), over an interval table and edges of any contents. Assumes nothing.
-use mathlib.Core.List.{List, [], _∷_, map}
-use mathlib.Core.Bool.{Bool, true, false, _&&_}
-use mathlib.Core.Option.{Option, none, some}
+-- The call's interval (01) and its cover (02, point 1), over an interval table of any contents. Assumes nothing.
+use mathlib.Core.List.{List, map}
+use mathlib.Core.Bool.{Bool, not, cond, _&&_, _||_}
 use Prim.Native.Nat.{ℕ, zero, suc, _+_, _-_, _*_}
 use lib.Dec.{leb, ltb}
 use lib.ListN.{getD}
 use Rattle.intervals.specs.Lists.{least, greatest}
-use Rattle.intervals.specs.Hierarchy.{children}
 use Rattle.intervals.specs.declared.Interval.{Interval}
 
 -- low of a node, in a table that has low and high in turn for each node
@@ -33,33 +31,19 @@ contains a b = leb (a .low) (b .low) && leb (b .high) (a .high)
 abbrev pub width : Interval → ℕ
 width a = a .high - a .low
 
--- the child where the test holds, or a later one
-abbrev pub orElse : Bool → ℕ → Option ℕ → Option ℕ
-orElse true child later = some child
-orElse false child later = later
+-- one interval is closer to the call's than another: it contains the call's, and the other does not or is wider
+abbrev pub closer : Interval → Interval → Interval → Bool
+closer call a b = contains a call && (not (contains b call) || ltb (width a) (width b))
 
--- the first of the children whose interval contains the call's and is narrower than the present node's
-unfoldable pub firstWithin : List ℕ → Interval → ℕ → List ℕ → Option ℕ
-firstWithin table call present [] = none
-firstWithin table call present (child ∷ cs) =
-    orElse (contains (intervalAt table child) call && ltb (width (intervalAt table child)) (width (intervalAt table present))) child
-    (firstWithin table call present cs)
+-- the node where it is closer than the best so far, else the best so far
+abbrev pub closerOf : List ℕ → Interval → ℕ → ℕ → ℕ
+closerOf table call node best = cond (closer call (intervalAt table node) (intervalAt table best)) node best
 
--- step to that child; when there is none, the present node is the cover
-abbrev pub stepOr : (ℕ → ℕ) → ℕ → Option ℕ → ℕ
-stepOr onward present none = present
-stepOr onward present (some child) = onward child
+-- of all nodes below n whose interval contains the call's, the narrowest, and of equally narrow ones the lowest number; 0 where there is none
+unfoldable pub closest : ℕ → List ℕ → Interval → ℕ
+closest zero table call = 0
+closest (suc k) table call = closerOf table call k (closest k table call)
 
--- the search from a node, of at most k steps
-unfoldable pub searchFrom : ℕ → List ℕ → List ℕ → Interval → ℕ → ℕ
-searchFrom zero table es call present = present
-searchFrom (suc k) table es call present =
-    stepOr (searchFrom k table es call) present (firstWithin table call present (children es present))
-
--- start at the root: the cover of a call's interval. The width falls with each step, so as many steps as the root's interval is wide are enough
-unfoldable pub coverOfInterval : List ℕ → List ℕ → Interval → ℕ
-coverOfInterval table es call = searchFrom (width (intervalAt table 0)) table es call 0
-
--- the cover of a call
-abbrev pub coverOf : List ℕ → List ℕ → List ℕ → ℕ
-coverOf table es names = coverOfInterval table es (callInterval table names)
+-- the cover of a call that names these nodes
+abbrev pub coverOf : ℕ → List ℕ → List ℕ → ℕ
+coverOf n table names = closest n table (callInterval table names)

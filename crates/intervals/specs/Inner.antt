@@ -1,17 +1,15 @@
 -- Terms of the contracts of private functions only: no definition of the paper is here. Assumes nothing.
 use mathlib.Core.Path.{_≡_}
 use mathlib.Core.List.{List, [], _∷_}
-use mathlib.Core.Bool.{Bool, true, false, _&&_, _||_}
+use mathlib.Core.Bool.{Bool, true, false, _||_}
 use mathlib.Core.Option.{Option, none, some}
 use Prim.Native.Nat.{ℕ, suc, _+_, _-_, _*_, _<_, _≤_}
 use lib.Dec.{eqb, ltb}
 use lib.ListN.{length, getD, set, take, replicate}
 use Rattle.intervals.specs.Lists.{any}
-use Rattle.intervals.specs.Hierarchy.{Edge, Reach, edgesOf, children, Legal}
+use Rattle.intervals.specs.Hierarchy.{Edge, Reach, edgesOf, Legal}
 use Rattle.intervals.specs.Numbering.{at, walk, numbering}
-use Rattle.intervals.specs.Cover.{intervalAt, contains, width, firstWithin, stepOr}
 use Rattle.intervals.specs.declared.Ends.{Ends}
-use Rattle.intervals.specs.declared.Interval.{Interval}
 
 -- one more where the test holds
 abbrev pub oneIf : Bool → ℕ → ℕ
@@ -159,25 +157,3 @@ pub record Writable (n count : ℕ) (edges numbers table : List ℕ) : Type 0 wh
   pub enough : n ≤ length numbers
   pub numbered : take n numbers ≡ numbering n (edgesOf edges count)
   pub long : length table ≡ 2 * n
-
--- where the search steps from a node: to the node itself where no child leads on
-abbrev pub stepFrom : List ℕ → Interval → List ℕ → ℕ → ℕ
-stepFrom table call es node = stepOr (λ (child : ℕ). child) node (firstWithin table call node (children es node))
-
--- a table in which each node below 256 steps to itself
-pub record Stays (next : List ℕ) : Type 0 where
-  pub long : length next ≡ 256
-  pub self : (node : ℕ) → node < 256 → getD next node 0 ≡ node
-
--- the search steps from the present node to one whose interval is a
-abbrev pub leadsOn : Interval → Interval → Interval → Bool
-leadsOn a call present = contains a call && ltb (width a) (width present)
-
--- the table after an edge: its parent steps to its child where the search does
-abbrev pub led : List ℕ → Interval → Ends → List ℕ → List ℕ
-led table call ends next = setIf (leadsOn (intervalAt table (ends .child)) call (intervalAt table (ends .parent))) next (ends .parent) (ends .child)
-
--- a table that has for each node below 256 where the search steps
-pub record Onward (table : List ℕ) (call : Interval) (es next : List ℕ) : Type 0 where
-  pub long : length next ≡ 256
-  pub steps : (node : ℕ) → node < 256 → getD next node 0 ≡ stepFrom table call es node

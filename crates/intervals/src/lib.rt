@@ -1,9 +1,9 @@
 // The hierarchy: refusals 5 to 9, the numbering walk, intervals, building, and the cover of a call.
 
 ghost use mathlib.Core.Path.{_≡_};
-ghost use mathlib.Core.Bool.{true, false, _&&_};
+ghost use mathlib.Core.Bool.{true, false};
 ghost use Prim.Native.Nat.{ℕ, _+_, _*_, _/_, _<_, _≤_, min, max};
-ghost use lib.Dec.{eqb, ltb};
+ghost use lib.Dec.{eqb};
 ghost use lib.ListN.{length, getD, take, replicate};
 ghost use Rattle.intervals.specs.Lists.{any, over};
 ghost use Rattle.intervals.specs.Answer.{refusal};
@@ -11,8 +11,8 @@ ghost use Rattle.intervals.specs.Hierarchy.{edgesOf, children, someEdge,
 ghost use Rattle.intervals.specs.Numbering.{at as walkAt, walk as walked, numbering};
 ghost use Rattle.intervals.specs.Intervals.{intervalTable};
 ghost use Rattle.intervals.specs.Build.{buildStep, buildMeaning};
-ghost use Rattle.intervals.specs.Cover.{intervalAt, callInterval, contains as containing, width as widthOf, firstWithin, stepOr, coverOfInterval, coverOf};
-ghost use Rattle.intervals.specs.Inner.{endsAt, Edges, repeats, Went, zeros, numberOf, Ready, Fresh, lastMarks, isBetter, improved, turnAt, Kept, Settled, Best, lows, highs, tableWeight, orMost, doubled, Writable, stepFrom, Stays, led, Onward};
+ghost use Rattle.intervals.specs.Cover.{intervalAt, callInterval, contains as containing, width as widthOf, closer as isCloser, closest as closestOf, coverOf};
+ghost use Rattle.intervals.specs.Inner.{endsAt, Edges, repeats, Went, zeros, numberOf, Ready, Fresh, lastMarks, isBetter, improved, turnAt, Kept, Settled, Best, lows, highs, tableWeight, orMost, doubled, Writable};
 
 // The interval of a node or of a call, from its low to its high.
 pub struct Interval {
@@ -515,128 +515,47 @@ fn width(a: Interval) -> u16
     0
 }
 
-// Whether the search steps from the present node to one with the given interval.
-fn leads_on(interval: Interval, call: Interval, present: Interval) -> bool
-    ensures { λ r. ⌜ r ≡ (containing interval call && ltb (widthOf interval) (widthOf present)) ⌝ }
+// Whether an interval is closer to the call's than another: it contains the call's, and the other does not or is wider.
+fn closer(call: Interval, a: Interval, b: Interval) -> bool
+    ensures { λ r. ⌜ r ≡ isCloser call a b ⌝ }
 {
-    if contains(interval, call) {
-        return width(interval) < width(present);
-    }
-    false
+    contains(a, call) & (!contains(b, call) | (width(a) < width(b)))
 }
 
-// The child that the search steps to, or the present node where there is none.
-fn step(intervals: &[u16], edges: &[u16], count: usize, call: Interval, present: usize) -> usize
-    ensures { λ r. ⌜ r ≡ stepOr (λ child. child) present (firstWithin (now (intervals .entry)) call present (children (edgesOf (now (edges .entry)) count) present)) ⌝ }
+// How many of n nodes are worth a look. Past the end of the table all intervals are the same, so that the first node there stands for all.
+fn worth_a_look(n: usize, intervals: &[u16]) -> usize
+    ensures { λ r. ⌜ r ≡ min n (length (now (intervals .entry)) / 2 + 2) ⌝ }
 {
-    let whole = whole_edges(edges, count);
-    let around = interval_at(intervals, present);
-    let mut e = 0;
-    while e < whole {
-        let ends = edge_at(edges, e);
-        let child = ends.child;
-        e += 1;
-        if ends.parent == present {
-            if leads_on(interval_at(intervals, child), call, around) {
-                return child;
-            }
+    let most = intervals.len() / 2 + 2;
+    if n <= most {
+        return n;
+    }
+    most
+}
+
+// Of n nodes the closest to a call's interval, by one pass over them.
+fn closest(n: usize, intervals: &[u16], call: Interval) -> usize
+    ensures { λ r. ⌜ r ≡ closestOf n (now (intervals .entry)) call ⌝ }
+{
+    let end = worth_a_look(n, intervals);
+    let mut best = 0;
+    let mut around = interval_at(intervals, best);
+    let mut node = 0;
+    while node < end {
+        let here = interval_at(intervals, node);
+        if closer(call, here, around) {
+            best = node;
+            around = here;
         }
+        node += 1;
     }
-    present
-}
-
-// Has each node of a table step to itself.
-fn stay(next: &mut [u16])
-    requires { ⌜ length (now next) ≡ 256 ⌝ }
-    ensures { λ _. ⌜ Stays (now (next .exit)) ⌝ }
-{
-    let mut i = 0;
-    while i < next.len() {
-        next[i] = i as u16;
-        i += 1;
-    }
-}
-
-// Has the parent of edge e step to its child where the search does. A parent past the table is passed over.
-fn lead(intervals: &[u16], edges: &[u16], e: usize, call: Interval, next: &mut [u16])
-    requires { ⌜ 2 * e + 1 < length (now edges) ⌝ }
-    ensures { λ _. ⌜ now (next .exit) ≡ led (now (intervals .entry)) call (endsAt (now (edges .entry)) e) (now (next .entry)) ⌝ }
-{
-    let ends = edge_at(edges, e);
-    let parent = ends.parent;
-    let child = ends.child;
-    if parent < next.len() {
-        if leads_on(
-            interval_at(intervals, child),
-            call,
-            interval_at(intervals, parent),
-        ) {
-            next[parent] = child as u16;
-        }
-    }
-}
-
-// Where the search steps from each node below 256, by one pass over the edges. Goes from the last to the first, so that of the children to
-// step to the first stays.
-fn onward(intervals: &[u16], edges: &[u16], count: usize, call: Interval, next: &mut [u16])
-    requires { ⌜ length (now next) ≡ 256 ⌝ }
-    ensures { λ _. ⌜ Onward (now (intervals .entry)) call (edgesOf (now (edges .entry)) count) (now (next .exit)) ⌝ }
-{
-    stay(next);
-    let whole = whole_edges(edges, count);
-    let mut left = whole;
-    while 0 < left {
-        lead(intervals, edges, left - 1, call, next);
-        left -= 1;
-    }
-}
-
-// The node that the search steps to: from a node below 256 as the table has it, and from another as the edges have it.
-fn follow(
-    intervals: &[u16],
-    edges: &[u16],
-    count: usize,
-    call: Interval,
-    next: &[u16],
-    present: usize,
-) -> usize
-    requires { ⌜ Onward (now intervals) call (edgesOf (now edges) count) (now next) ⌝ }
-    ensures { λ r. ⌜ r ≡ stepFrom (now (intervals .entry)) call (edgesOf (now (edges .entry)) count) present ⌝ }
-{
-    if present < next.len() {
-        return next[present] as usize;
-    }
-    step(intervals, edges, count, call, present)
-}
-
-// The search by the table, from the root on.
-fn descend(intervals: &[u16], edges: &[u16], count: usize, call: Interval, next: &[u16]) -> usize
-    requires { ⌜ Onward (now intervals) call (edgesOf (now edges) count) (now next) ⌝ }
-    ensures { λ r. ⌜ r ≡ coverOfInterval (now (intervals .entry)) (edgesOf (now (edges .entry)) count) call ⌝ }
-{
-    let mut present = 0;
-    loop {
-        let to = follow(intervals, edges, count, call, next, present);
-        if to == present {
-            return present;
-        }
-        present = to;
-    }
-}
-
-// The search for the cover of a call's interval: one pass over the edges, and then a node a step.
-fn search(intervals: &[u16], edges: &[u16], count: usize, call: Interval) -> usize
-    ensures { λ r. ⌜ r ≡ coverOfInterval (now (intervals .entry)) (edgesOf (now (edges .entry)) count) call ⌝ }
-{
-    let mut next = [0u16; 256];
-    onward(intervals, edges, count, call, &mut next);
-    descend(intervals, edges, count, call, &next)
+    best
 }
 
 // The cover of a call.
-pub fn cover(intervals: &[u16], edges: &[u16], count: usize, names: &[u16]) -> u16
-    ensures { λ r. ⌜ r ≡ coverOf (now (intervals .entry)) (edgesOf (now (edges .entry)) count) (now (names .entry)) ⌝ }
+pub fn cover(n: usize, intervals: &[u16], names: &[u16]) -> usize
+    ensures { λ r. ⌜ r ≡ coverOf n (now (intervals .entry)) (now (names .entry)) ⌝ }
 {
     let call = call_interval(intervals, names);
-    search(intervals, edges, count, call) as u16
+    closest(n, intervals, call)
 }

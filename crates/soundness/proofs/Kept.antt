@@ -12,15 +12,14 @@ use lib.Seq.{append-snoc}
 use borrow.Author.Tests.{eq-eqb, ltb-false, lt-ltb, not-true, not-false}
 use Rattle.intervals.specs.Lists.{anyBelow, keep}
 use Rattle.intervals.specs.Answer.{Check, _when_}
-use Rattle.intervals.specs.Hierarchy.{edgesOf, edgeWrong}
-use Rattle.intervals.specs.Cover.{callInterval, coverOfInterval}
+use Rattle.intervals.specs.Cover.{callInterval}
 use Rattle.intervals.proofs.Bools.{bool, not-both, or-left}
 use Rattle.intervals.proofs.Refusals.{NoneHolds, refusal-none}
 use Rattle.intervals.proofs.Bounded.{any-stop, any-none, none-of}
 use Rattle.intervals.proofs.Members.{In}
 use Rattle.intervals.proofs.Distinct.{any-some, any-in, in-front, in-between, distinct-between}
-use Rattle.intervals.proofs.Legals.{no-edge, right-edge, right-size}
-use Rattle.intervals.proofs.Covers.{search-is}
+use Rattle.intervals.proofs.Legals.{right-size}
+use Rattle.intervals.proofs.Covers.{closest-below}
 use Rattle.desk.specs.declared.Mode.{Mode}
 use Rattle.desk.specs.declared.Lock.{Lock}
 use Rattle.desk.specs.declared.Stage.{Stage}
@@ -85,21 +84,14 @@ record Checked (H : Hierarchy) (party : ℕ) : Type 0 where
   real : (node : ℕ) → node < H .n → realInterval (lowIn H node) (highIn H node) ≡ true
   party-below : party < 32
 
--- covers are nodes, since the search only goes along edges
+-- a cover is a node: it is looked for among the n nodes, and there is one
 checked : (H : Hierarchy) (d : Desk) (party : ℕ) (short : Bool) (own : List Check) → NoneHolds (stepChecks H d party short own) → Checked H party
-unfolding coverOfInterval
 checked H d party short own f = record {
-  cover-below = λ names.
-      search-is (H .intervals) es (callInterval (H .intervals) names) (λ (r : ℕ). r < H .n)
-      (λ present child e around p. right-edge (H .n) present child (no-edge (edgeWrong (H .n)) (f .1 .1 .1 .0) e) .child-below)
-      _ 0 (right-size (H .n) (f .1 .0) .0);
+  cover-below = λ names. closest-below (H .intervals) (callInterval (H .intervals) names) (H .n) (right-size (H .n) (f .1 .0) .0);
   real = λ node h. real node (any-none (intervalWrong H) (H .n) node (or-left (anyBelow (H .n) (intervalWrong H)) (not (soundDesk H d)) (f .1 .1 .1 .1 .0)) h);
   party-below = let k = ltb-false 31 party (f .1 .1 .1 .1 .1 .0) in omega arith;
 }
   where
-    es : List ℕ
-    es = edgesOf (H .edges) (H .edgeCount)
-
     real : (node : ℕ) → intervalWrong H node ≡ false → realInterval (lowIn H node) (highIn H node) ≡ true
     real node w = not-false (realInterval (lowIn H node) (highIn H node))
         (or-left (not (realInterval (lowIn H node) (highIn H node))) (ltb (lowIn H node) (lowIn H 0))

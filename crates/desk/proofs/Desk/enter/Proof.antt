@@ -3,7 +3,8 @@ use mathlib.Core.Path.{sym, ap, _∙_}
 use mathlib.Core.Bool.{Bool, not}
 use mathlib.Core.List.{[], _∷_}
 use lib.Dec.{ltb}
-use lib.ListN.{length}
+use native.Mathlib.Omega.{arith}
+use lib.ListN.{length, take}
 use lib.Seq.{length-take-le}
 use borrow.Author.Needs.{needs}
 use borrow.Author.Tests.{ltb-false}
@@ -12,7 +13,7 @@ use Rattle.intervals.specs.Answer.{_when_}
 use Rattle.intervals.proofs.Refusals.{refused-here, refused-later}
 use Rattle.desk.specs.Desks.{lent, stageAt, isOut}
 use Rattle.desk.specs.Steps.{namesWrong}
-use Rattle.desk.proofs.Judging.{judged-own, judged-some, refusal-nil, not-short, few-waiting, party-below}
+use Rattle.desk.proofs.Judging.{judged-own, judged-some, refusal-nil, not-short, few-waiting, cover-below, party-below}
 use Rattle.desk.proofs.Answering.{enter-refused, enter-granted, enter-waits}
 use Rattle.desk.proofs.Desk.enter.Statement.{statement}
 use Rattle.desk.proofs.Desk.enter.Tie as tie
@@ -36,6 +37,10 @@ returns-3 c = let z = c .before .before .before .before .before .before .before 
 slice-aggregate-cover : tie.Need-slice-aggregate-cover
 slice-aggregate-cover c = let z = c .before .before .before .before .before .before .before .before .before .before .before .args in let h = lent (z .n) (z .intervals .now) (z .edges .now) (z .count) in
     sym (length-take-le (z .named) (z .names .now) (ltb-false _ _ (not-short h (z .self) (z .party) (ltb (length (z .names .now)) (z .named)) _ (c .before .before .before .before .before .before .if1 .left) (c .before .before .before .before .before .before .before .judge .ensures .1))))
+
+cast-lock-on : tie.Need-cast-lock-on
+cast-lock-on c = let z = c .before .before .before .before .before .before .before .before .before .before .before .before .args in let h = lent (z .n) (z .intervals .now) (z .edges .now) (z .count) in
+    omega (arith, c .cover .ensures, cover-below h (z .self) (z .party) (ltb (length (z .names .now)) (z .named)) _ (c .before .before .before .before .before .before .before .if1 .left) (c .before .before .before .before .before .before .before .before .judge .ensures .1) (take (z .named) (z .names .now)))
 
 granted-requires : tie.Need-granted-requires
 granted-requires c κs = let z = c .before .before .before .before .before .before .before .before .before .before .before .before .before .before .before .args in let h = lent (z .n) (z .intervals .now) (z .edges .now) (z .count) in
@@ -66,10 +71,10 @@ enter-spec =
     returns-3
     slice-aggregate-cover
     (λ c κs. search needs)
+    cast-lock-on
     (λ c κs. search needs)
     (λ c κs. search needs)
     granted-requires
-    (λ c. search needs)
     returns-4
     queued-requires
     returns-5)
