@@ -1,4 +1,4 @@
-"""A plain model of the record desk, written from the paper (document 01), to compare the listing program with.
+"""A plain model of the record desk, written from the papers (document 01, and point 1 of 02), to compare the listing program with.
 
 It shares no code with the project: sets for reach, Python integers for values, a list of parties for the arrival order.
 `listing(data)` gives the lines that the listing program must print for the bytes of one file.
