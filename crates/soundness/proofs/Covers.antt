@@ -1,8 +1,8 @@
 -- THEOREMS about the cover that enter takes (02, point 1). Assumes nothing.
-use mathlib.Core.Path.{_≡_, ap}
+use mathlib.Core.Path.{_≡_, refl, ap, subst}
 use mathlib.Core.List.{List, [], _∷_}
-use mathlib.Core.Bool.{false, not, _&&_, _||_}
-use mathlib.Core.Option.{none}
+use mathlib.Core.Bool.{Bool, true, false, not, _&&_, _||_}
+use mathlib.Core.Option.{Option, none, some}
 use Prim.Native.Nat.{ℕ, _≤_, _<_}
 use native.Mathlib.Omega.{arith}
 use lib.Dec.{leb, ltb}
@@ -10,7 +10,7 @@ use lib.ListN.{length, take}
 use lib.Seq.{length-take-le}
 use borrow.Author.Tests.{leb-true, ltb-true, ltb-false, not-false}
 use Rattle.intervals.specs.Lists.{anyBelow, any}
-use Rattle.intervals.specs.Answer.{_when_}
+use Rattle.intervals.specs.Answer.{Answer, done, refused, _when_}
 use Rattle.intervals.specs.Cover.{intervalAt, callInterval}
 use Rattle.intervals.specs.declared.Interval.{Interval}
 use Rattle.intervals.proofs.Bools.{bool, not-both, and-left, and-right, or-left, or-right}
@@ -21,11 +21,24 @@ use Rattle.intervals.proofs.Distinct.{any-in}
 use Rattle.interval_laws.specs.Covers.{IsCover, Judged}
 use Rattle.interval_laws.proofs.Covers.{contains-by, cover-is, one-name-again}
 use Rattle.desk.specs.declared.Mode.{Mode}
+use Rattle.desk.specs.declared.Lock.{Lock}
 use Rattle.desk.specs.declared.Desk.{Desk}
 use Rattle.desk.specs.Locks.{realInterval}
 use Rattle.desk.specs.Desks.{Hierarchy, lowIn, highIn, coverIn, stageAt, isOut}
 use Rattle.desk.specs.Sound.{soundDesk}
-use Rattle.desk.specs.Steps.{tablesShort, intervalWrong, stepChecks, namesWrong, enterRefusal, lockOn}
+use Rattle.desk.specs.Steps.{tablesShort, intervalWrong, stepChecks, Admission, granted, waits, namesWrong, enterRefusal, lockOn, free, enterIf, enterUnless, enterStep}
+
+-- an interval that refusal 10 lets pass is real, and inside node 0's
+pub not-wrong : (H : Hierarchy) (node : ℕ) → intervalWrong H node ≡ false
+    → (realInterval (lowIn H node) (highIn H node) ≡ true) × (lowIn H 0 ≤ lowIn H node) × (highIn H node ≤ highIn H 0)
+not-wrong H node e =
+    let low = lowIn H node in
+    let high = highIn H node in
+    let a = or-left (not (realInterval low high) || ltb low (lowIn H 0)) (ltb (highIn H 0) high) e in (
+      not-false (realInterval low high) (or-left (not (realInterval low high)) (ltb low (lowIn H 0)) a),
+      ltb-false low (lowIn H 0) (or-right (not (realInterval low high)) (ltb low (lowIn H 0)) a),
+      ltb-false (highIn H 0) high (or-right (not (realInterval low high) || ltb low (lowIn H 0)) (ltb (highIn H 0) high) e),
+    )
 
 -- where refusal 10 finds no interval wrong, the intervals are judged
 pub judged-right : (H : Hierarchy) → anyBelow (H .n) (intervalWrong H) ≡ false → Judged (H .n) (H .intervals)
@@ -33,18 +46,12 @@ judged-right H fine = record {
   ordered = λ node h.
       let low = lowIn H node in
       let high = highIn H node in
-      let real = not-false (realInterval low high) (or-left (not (realInterval low high)) (ltb low (lowIn H 0)) (or-left (not (realInterval low high) || ltb low (lowIn H 0)) (ltb (highIn H 0) high) (right node h))) in
-      leb-true low high (and-right (leb 1 low) (leb low high) (and-left (leb 1 low && leb low high) (leb high 256) real));
-  in-root = λ node h.
-      let low = lowIn H node in
-      let high = highIn H node in
-      contains-by (intervalAt (H .intervals) 0) (intervalAt (H .intervals) node)
-      (ltb-false low (lowIn H 0) (or-right (not (realInterval low high)) (ltb low (lowIn H 0)) (or-left (not (realInterval low high) || ltb low (lowIn H 0)) (ltb (highIn H 0) high) (right node h))))
-      (ltb-false (highIn H 0) high (or-right (not (realInterval low high) || ltb low (lowIn H 0)) (ltb (highIn H 0) high) (right node h)));
+      leb-true low high (and-right (leb 1 low) (leb low high) (and-left (leb 1 low && leb low high) (leb high 256) (right node h .0)));
+  in-root = λ node h. contains-by (intervalAt (H .intervals) 0) (intervalAt (H .intervals) node) (right node h .1) (right node h .2);
 }
   where
-    right : (node : ℕ) → node < H .n → intervalWrong H node ≡ false
-    right node h = any-none (intervalWrong H) (H .n) node fine h
+    right : (node : ℕ) → node < H .n → (realInterval (lowIn H node) (highIn H node) ≡ true) × (lowIn H 0 ≤ lowIn H node) × (highIn H node ≤ highIn H 0)
+    right node h = not-wrong H node (any-none (intervalWrong H) (H .n) node fine h)
 
 -- AN ENTER THAT IS NOT REFUSED, over any tables and desk
 module _ (H : Hierarchy) (d : Desk) (party : ℕ) (names : List ℕ) (nameCount : ℕ) (fine : enterRefusal H d party names nameCount ≡ none) where
@@ -58,8 +65,8 @@ module _ (H : Hierarchy) (d : Desk) (party : ℕ) (names : List ℕ) (nameCount 
   judged : Judged (H .n) (H .intervals)
   judged = judged-right H (or-left (anyBelow (H .n) (intervalWrong H)) (not (soundDesk H d)) (none-holds .1 .1 .1 .1 .0))
 
-  some : 1 ≤ length called
-  some =
+  some-name : 1 ≤ length called
+  some-name =
       let long = ltb-false (length names) nameCount (or-right (tablesShort H) (ltb (length names) nameCount) (none-holds .0)) in
       let right = not-false (leb 1 nameCount && leb nameCount 8)
       (or-left (not (leb 1 nameCount && leb nameCount 8)) (any (λ node. not (ltb node (H .n))) called) (none-holds .1 .1 .1 .1 .1 .1 .1 .0)) in
@@ -74,7 +81,7 @@ module _ (H : Hierarchy) (d : Desk) (party : ℕ) (names : List ℕ) (nameCount 
 
   -- takes the cover: of all nodes whose interval contains the call's the narrowest, of equally narrow ones the lowest number
   pub enter-cover : IsCover (H .n) (H .intervals) (callInterval (H .intervals) called) (coverIn H called)
-  enter-cover = by called some nodes
+  enter-cover = by called some-name nodes
     where
       by : (ns : List ℕ) → 1 ≤ length ns → ((r : ℕ) → In r ns → r < H .n) → IsCover (H .n) (H .intervals) (callInterval (H .intervals) ns) (coverIn H ns)
       by [] l f = absurd (omega arith)
@@ -83,8 +90,33 @@ module _ (H : Hierarchy) (d : Desk) (party : ℕ) (names : List ℕ) (nameCount 
   -- and where it names one node, however often, its lock has that node's interval
   pub enter-one : (mode : Mode) (x : ℕ) → ((r : ℕ) → In r called → r ≡ x)
       → (lockOn H mode (coverIn H called) .low ≡ lowIn H x) × (lockOn H mode (coverIn H called) .high ≡ highIn H x)
-  enter-one mode x same = let e = by called some nodes same in (ap (λ (a : Interval). a .low) e, ap (λ (a : Interval). a .high) e)
+  enter-one mode x same = let e = by called some-name nodes same in (ap (λ (a : Interval). a .low) e, ap (λ (a : Interval). a .high) e)
     where
       by : (ns : List ℕ) → 1 ≤ length ns → ((r : ℕ) → In r ns → r < H .n) → ((r : ℕ) → In r ns → r ≡ x) → intervalAt (H .intervals) (coverIn H ns) ≡ intervalAt (H .intervals) x
       by [] l f g = absurd (omega arith)
       by (name ∷ ns) l f g = one-name-again (H .n) (H .intervals) judged x name ns (omega (arith, f name head, g name head)) g
+
+-- THE COVER THAT ENTER ANSWERS WITH is the cover, over any tables and desk
+pub granted-cover : (H : Hierarchy) (d : Desk) (party : ℕ) (mode : Mode) (names : List ℕ) (nameCount c : ℕ)
+    → (enterStep H d party mode names nameCount) .answer ≡ done (granted c)
+    → IsCover (H .n) (H .intervals) (callInterval (H .intervals) (take nameCount names)) c
+unfolding enterStep
+granted-cover H d party mode names nameCount c e = by (enterRefusal H d party names nameCount) refl e
+  where
+    l : Lock
+    l = lockOn H mode (coverIn H (take nameCount names))
+
+    coverOfAnswer : Answer Admission → ℕ
+    coverOfAnswer (done (granted cover)) = cover
+    coverOfAnswer (done waits) = 0
+    coverOfAnswer (refused k) = 0
+
+    admitted : (b : Bool) → (enterIf b d party l) .answer ≡ done (granted c) → coverIn H (take nameCount names) ≡ c
+    admitted true e = ap coverOfAnswer e
+    admitted false e = not-both true refl cc
+
+    by : (o : Option ℕ) → enterRefusal H d party names nameCount ≡ o → (enterUnless o d party l) .answer ≡ done (granted c)
+        → IsCover (H .n) (H .intervals) (callInterval (H .intervals) (take nameCount names)) c
+    by (some k) fine e = not-both true refl cc
+    by none fine e =
+        subst (IsCover (H .n) (H .intervals) (callInterval (H .intervals) (take nameCount names))) (admitted (free d l) e) (enter-cover H d party names nameCount fine)

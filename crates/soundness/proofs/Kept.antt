@@ -33,6 +33,7 @@ use Rattle.desk.specs.Steps.{intervalWrong, stepChecks, lockOn, free, grantTo, 
 use Rattle.history.proofs.Facts.{sweep-length}
 use Rattle.soundness.proofs.Laws.{unchanged-get, unchanged-put}
 use Rattle.soundness.proofs.Orderly.{Shaped, Reads, Orderly, HeldUp, sound-reads, places-long, sound-orderly, sound-held, made-sound}
+use Rattle.soundness.proofs.Covers.{not-wrong}
 use Rattle.soundness.proofs.Changes.{stage-same, stage-other, waits-apart, called, ended, admitted, granted, still-meets, up-set, up-last}
 
 -- SHAPE: a fresh desk has it
@@ -88,14 +89,9 @@ record Checked (H : Hierarchy) (party : ℕ) : Type 0 where
 checked : (H : Hierarchy) (d : Desk) (party : ℕ) (short : Bool) (own : List Check) → NoneHolds (stepChecks H d party short own) → Checked H party
 checked H d party short own f = record {
   cover-below = λ names. closest-below (H .intervals) (callInterval (H .intervals) names) (H .n) (right-size (H .n) (f .1 .0) .0);
-  real = λ node h. real node (any-none (intervalWrong H) (H .n) node (or-left (anyBelow (H .n) (intervalWrong H)) (not (soundDesk H d)) (f .1 .1 .1 .1 .0)) h);
+  real = λ node h. not-wrong H node (any-none (intervalWrong H) (H .n) node (or-left (anyBelow (H .n) (intervalWrong H)) (not (soundDesk H d)) (f .1 .1 .1 .1 .0)) h) .0;
   party-below = let k = ltb-false 31 party (f .1 .1 .1 .1 .1 .0) in omega arith;
 }
-  where
-    real : (node : ℕ) → intervalWrong H node ≡ false → realInterval (lowIn H node) (highIn H node) ≡ true
-    real node w = not-false (realInterval (lowIn H node) (highIn H node))
-        (or-left (not (realInterval (lowIn H node) (highIn H node))) (ltb (lowIn H node) (lowIn H 0))
-        (or-left (not (realInterval (lowIn H node) (highIn H node)) || ltb (lowIn H node) (lowIn H 0)) (ltb (highIn H 0) (highIn H node)) w))
 
 -- ENTER, of a party that is out, with a lock whose interval and cover are right
 is-out : (x : Stage) → isOut x ≡ true → x ≡ Out
