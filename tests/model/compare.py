@@ -6,8 +6,8 @@
 LISTING is the program. It prints the seed, how often each answer and each refusal was seen, and the first difference; it exits 1 where there is
 one, or where a kind of answer that the paper has was never seen. --keep writes the file that differs into DIR.
 Files are valid, of the wrong length, damaged with and without a check that was made right again (in all blocks, or in some), misordered,
-of legal and illegal hierarchies, and now and then of 128 or 129 blocks; most steps take effect, since the generator follows the desk with
-the model and picks parties and records by it.
+of legal and illegal hierarchies, some with many intervals of one width, and now and then of 128 or 129 blocks; most steps take effect, since
+the generator follows the desk with the model and picks parties and records by it.
 """
 import argparse
 import collections
@@ -64,6 +64,19 @@ def legal(rnd, n, most):
     return edges
 
 
+def windows(rnd, n):
+    """Leaves below the root, and records over stretches of them that overlap: many intervals of one width, so that the lowest number decides."""
+    names = list(range(1, n))
+    rnd.shuffle(names)
+    leaves, over = names[:(2 * n + 2) // 3 - 1], names[(2 * n + 2) // 3 - 1:]
+    edges = [(0, leaf) for leaf in leaves]
+    for w in over:
+        width = rnd.randrange(1, len(leaves) // 2 + 1)
+        first = rnd.randrange(len(leaves) - width)
+        edges += [(0, w), (w, leaves[first]), (w, leaves[first + width])]
+    return edges
+
+
 def spoiled(rnd, n, edges):
     """A hierarchy with one fault, or several."""
     edges = list(edges)
@@ -89,6 +102,15 @@ def spoiled(rnd, n, edges):
 
 # ---- steps
 
+ties = collections.Counter()
+
+
+def tied(h, names):
+    """Whether another record is as narrow around the names as their cover, with another interval."""
+    low, high, c = min(h.low[x] for x in names), max(h.high[x] for x in names), h.cover(names)
+    return any(h.low[x] != h.low[c] and h.high[x] - h.low[x] == h.high[c] - h.low[c] and h.contains(x, low, high) for x in range(h.n))
+
+
 def steps(rnd, h, count):
     """Steps that mostly take effect, since the model's desk says who is where; one in eight is picked blindly."""
     desk, out = model.Desk(h), []
@@ -113,6 +135,10 @@ def steps(rnd, h, count):
                 party = rnd.choice(away)
             names = [rnd.randrange(h.n) for _ in range(rnd.choice((1, 1, 1, 2, 3, 8)))]
             names[rnd.randrange(len(names))] = node
+            next_to = [x for x in range(h.n) if node < h.n and h.low[x] == h.high[node] + 1]
+            if len(names) > 1 and next_to and rnd.random() < 0.4:
+                names = [node, rnd.choice(next_to)]
+            ties["all"] += all(x < h.n for x in names) and tied(h, names)
             r = record(3, party, rnd.choice((1, 2)), len(names), *names)
         elif choice < 0.75:
             if not blind:
@@ -176,7 +202,10 @@ def one(rnd):
     if style < 0.01:
         return "noise", rnd.randbytes(rnd.choice((0, 0, 1, 511, 512, 513, 1024, 65536, 65537, 66048, 131072)))
     n = rnd.choice((1, 2, 3, 4, 5, 6, 8, 10, 12, 16, 24, 40)) if style < 0.95 else rnd.choice((100, 255, 256))
-    edges = legal(rnd, n, rnd.choice((0, 2, n, 2 * n)) if style < 0.95 else rnd.choice((100, 1024)))
+    if 5 <= n <= 40 and rnd.random() < 0.2:
+        edges = windows(rnd, n)
+    else:
+        edges = legal(rnd, n, rnd.choice((0, 2, n, 2 * n)) if style < 0.95 else rnd.choice((100, 1024)))
     kind, count = "legal", rnd.choice((0, 1, 5, 20, 40, 80, 160))
     if rnd.random() < 0.12:
         kind, (n, edges) = "illegal hierarchy", spoiled(rnd, n, edges)
@@ -245,9 +274,9 @@ def main():
     print(f"seed {args.seed}: {args.files} files agree")
     print("files: " + ", ".join(f"{w} {n}" for w, n in sorted(kinds.items())))
     print("lines: " + ", ".join(f"{w} {seen[w]}" for w in WANTED))
-    print(f"leaves that granted one waiter {one_freed}, several {more_freed}")
+    print(f"leaves that granted one waiter {one_freed}, several {more_freed}; enters with equally narrow records of other intervals {ties['all']}")
     missing = [w for w in WANTED if not seen[w]]
-    missing += [w for w, n in (("a leave that grants one", one_freed), ("a leave that grants several", more_freed)) if not n]
+    missing += [w for w, n in (("a leave that grants one", one_freed), ("a leave that grants several", more_freed), ("a tie of other intervals", ties["all"])) if not n]
     if missing:
         print("never seen: " + ", ".join(missing))
         return 1

@@ -289,7 +289,7 @@ fn covers(places: &[u16]) {
     cover(b"T, cover {6}", 10, places, &[6]);
 }
 
-// Covers over tables that no hierarchy has. Past the end of a table stands 0, and so does the interval of a call without names.
+// Covers over tables of any contents. Past the end of a table stands 0; a call without names has [0,0].
 fn other_covers() {
     cover(b"[5,6] [1,9], cover {1}", 2, &[5, 6, 1, 9], &[1]);
     cover(b"[5,6] [1,9], n = 1, cover {1}", 1, &[5, 6, 1, 9], &[1]);
@@ -299,6 +299,18 @@ fn other_covers() {
         3,
         &[1, 9, 4, 4, 4, 4],
         &[2],
+    );
+    cover(
+        b"[1,4] [2,4] [1,3] [2,3], cover {3}, n = 3",
+        3,
+        &[1, 4, 2, 4, 1, 3, 2, 3],
+        &[3],
+    );
+    cover(
+        b"[1,4] [1,3] [2,4] [2,3], cover {3}, n = 3",
+        3,
+        &[1, 4, 1, 3, 2, 4, 2, 3],
+        &[3],
     );
     cover(b"[9,1] [3,3], cover {0}", 2, &[9, 1, 3, 3], &[0]);
     cover(

@@ -220,8 +220,8 @@ module _ (H : Hierarchy) (d : Desk) (party : ℕ) (short : Bool) (k : ℕ) (e : 
       lists-few d (and-left (listsParties d) (listsOnce d) (and-left (listsParties d && listsOnce d) (listsWaiting d) three))
 
   -- a cover is a node, and so fits where a lock keeps it
-  pub cover-below : (names : List ℕ) → coverIn H names < 256
-  cover-below names =
+  pub cover-fits : (names : List ℕ) → coverIn H names < 256
+  cover-fits names =
       let size = right-size (H .n) (none-holds .1 .0) in
       omega (arith, size .1, closest-below (H .intervals) (callInterval (H .intervals) names) (H .n) (size .0))
 

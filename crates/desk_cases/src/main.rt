@@ -711,24 +711,29 @@ fn in_arrival_order() {
     leave(d6, 4);
 }
 
-// A ward in record 8 is not held up by a writer of 7, and sees its own record.
-fn own_record() -> Desk {
+// The listing's steps 1 to 4: a ward in record 8 is not held up by a writer of 7; two records are held up by all of their cover.
+fn listing_steps() -> Desk {
     let d1 = enter(Desk::fresh(), 1, Mode::Writing, &[7]);
     let d2 = enter(d1, 2, Mode::Reading, &[8]);
-    let mut values = [100u64; 10];
-    get(d2, 2, 8, &values);
-    get(d2, 2, 9, &values);
-    put(d2, 2, 9, 5, &mut values);
-    d2
+    let d3 = enter(d2, 3, Mode::Reading, &[3]);
+    enter(d3, 4, Mode::Reading, &[4, 5])
 }
 
-// A name given twice is one record; two records are held up by all of their cover.
+// Row 14's small input, and what the ward sees.
+fn own_record(d: Desk) {
+    let mut values = [100u64; 10];
+    get(d, 4, 9, &values);
+    get(d, 2, 8, &values);
+    get(d, 2, 9, &values);
+    put(d, 2, 9, 5, &mut values);
+}
+
+// A name given twice is one record.
 fn behind(d: Desk) {
-    let d1 = enter(d, 3, Mode::Writing, &[8, 8]);
-    let d2 = enter(d1, 4, Mode::Reading, &[4, 5]);
-    let d3 = leave(d2, 1);
-    let d4 = leave(d3, 2);
-    leave(d4, 3);
+    let d1 = enter(d, 5, Mode::Writing, &[8, 8]);
+    let d2 = leave(d1, 1);
+    let d3 = leave(d2, 2);
+    leave(d3, 4);
 }
 
 // 31 wait for one: all readers go at once, of the writers one.
@@ -781,8 +786,9 @@ fn grants() {
 fn run_visits() {
     text(b"A SHORT VISIT\n");
     short_visit();
-    text(b"A RECORD'S OWN COVER\n");
-    let d = own_record();
+    text(b"THE LISTING'S FIRST STEPS\n");
+    let d = listing_steps();
+    own_record(d);
     behind(d);
     text(b"ARRIVAL ORDER\n");
     in_arrival_order();

@@ -1,8 +1,8 @@
--- The ten starred cases of the paper, with its figures. Assumes nothing.
+-- The ten starred cases of the paper, with its figures, those of the cover of {8} and of the listing as point 1 of 02 has them. Assumes nothing.
 use mathlib.Core.List.{List, [], _∷_, _++_}
 use Prim.Native.Nat.{ℕ}
 use lib.ListN.{take, replicate}
-use Rattle.replay.specs.Replay.{granted, waits, value, stored, left, refused}
+use Rattle.replay.specs.Replay.{granted, waits, stored, left, refused}
 use Rattle.examples.specs.Cases.{Case, intervals, cover, apart, listing}
 
 -- table T: n = 10
@@ -71,7 +71,7 @@ unfoldable pub starred : List Case
 starred =
     -- intervals 0 to 9 of T
     intervals 10 T (1 ∷ 4 ∷ 1 ∷ 2 ∷ 3 ∷ 4 ∷ 1 ∷ 1 ∷ 2 ∷ 2 ∷ 3 ∷ 3 ∷ 3 ∷ 4 ∷ 3 ∷ 3 ∷ 4 ∷ 4 ∷ 3 ∷ 3 ∷ [])
-    -- covers
+    -- covers, that of {8} since point 1
     ∷ cover 10 T (3 ∷ 4 ∷ []) 1
     ∷ cover 10 T (7 ∷ 8 ∷ []) 2
     ∷ cover 10 T (9 ∷ []) 5
@@ -83,7 +83,7 @@ starred =
     ∷ intervals 4 (0 ∷ 1 ∷ 1 ∷ 3 ∷ 1 ∷ 2 ∷ 2 ∷ 1 ∷ []) (1 ∷ 2 ∷ 1 ∷ 2 ∷ 1 ∷ 2 ∷ 1 ∷ 1 ∷ [])
     -- node 4 has [1,3]; a writer of 4 makes a writer of 2 wait, though they share nothing
     ∷ apart 5 shared 4 2 1 3 fileShared (granted 0 ∷ waits ∷ []) 1 1 1
-    -- the listing of T: ten answers, and the end's three numbers
+    -- the listing of T: ten answers, those of steps 2, 6, 7 and 9 since point 1, and the end's three numbers
     ∷ listing fileT
     (granted 5 ∷ granted 8 ∷ granted 3 ∷ waits ∷ stored ∷ left (4 ∷ []) ∷ refused 16 ∷ waits ∷ refused 16 ∷ left [] ∷ [])
     3 0 4

@@ -1,21 +1,21 @@
--- THEOREMS about the cover: over interval tables of any contents, over judged ones, and over those of every legal hierarchy. Assumes nothing.
-use mathlib.Core.Path.{_≡_, sym, ap, _∙_, subst}
+-- THEOREMS about the cover: over interval tables of any contents, over rooted ones, and over those of every legal hierarchy. Assumes nothing.
+use mathlib.Core.Path.{_≡_, refl, sym, ap, _∙_, subst}
 use mathlib.Core.List.{List, [], _∷_, map}
 use mathlib.Core.Bool.{true, false}
-use Prim.Native.Nat.{ℕ, _≤_, _<_}
+use Prim.Native.Nat.{ℕ, zero, suc, _≤_, _<_}
 use native.Mathlib.Omega.{arith}
 use lib.Dec.{leb}
 use borrow.Author.Tests.{leb-true, le-leb}
 use Rattle.intervals.specs.Lists.{foldFrom, least, greatest}
 use Rattle.intervals.specs.Hierarchy.{edgesOf, Legal}
 use Rattle.intervals.specs.Intervals.{intervalTable}
-use Rattle.intervals.specs.Cover.{lowAt, highAt, intervalAt, callInterval, contains, width, closest, coverOf}
+use Rattle.intervals.specs.Cover.{lowAt, highAt, intervalAt, callInterval, contains, width, closest, coverOf, IsCover}
 use Rattle.intervals.specs.declared.Interval.{Interval}
 use Rattle.intervals.proofs.Bools.{and-left, and-right, and-both}
 use Rattle.intervals.proofs.Members.{In, head, tail, least-is, greatest-is}
 use Rattle.intervals.proofs.Legals.{promised}
-use Rattle.intervals.proofs.Covers.{closest-is, closest-below}
-use Rattle.interval_laws.specs.Covers.{IsCover, Judged}
+use Rattle.intervals.proofs.Covers.{closest-cover}
+use Rattle.interval_laws.specs.Covers.{Rooted}
 use Rattle.interval_laws.proofs.Laws.{map-is, name-once, built-low, built-high, interval-real, interval-inside-root}
 
 -- the test of containment, by its ends
@@ -28,23 +28,20 @@ contains-ends a b e = (
 pub contains-by : (a b : Interval) → a .low ≤ b .low → b .high ≤ a .high → contains a b ≡ true
 contains-by a b p q = and-both (leb (a .low) (b .low)) (leb (b .high) (a .high)) (le-leb (a .low) (b .low) p) (le-leb (b .high) (a .high) q)
 
--- OVER ANY TABLE: where the interval of some node contains the call's, the definition gives the cover
-pub closest-cover : (n : ℕ) (table : List ℕ) (call : Interval) (r : ℕ) → r < n → contains (intervalAt table r) call ≡ true → IsCover n table call (closest n table call)
-closest-cover n table call r h a =
-    let c = closest-is table call n in
-    record { below = closest-below table call n (omega arith); around = c .around-too r h a; narrowest = c .narrowest; lowest = c .lowest }
-
--- where there is none, it gives 0
-pub closest-none : (n : ℕ) (table : List ℕ) (call : Interval) → ((r : ℕ) → r < n → contains (intervalAt table r) call ≡ false) → closest n table call ≡ 0
-closest-none n table call = closest-is table call n .root
-
+-- OVER ANY TABLE: where the interval of some node contains the call's, the definition gives the cover (`closest-cover`, intervals/proofs/Covers),
 -- and no other node is the cover
 pub closest-only : (n : ℕ) (table : List ℕ) (call : Interval) (c : ℕ) → IsCover n table call c → c ≡ closest n table call
 closest-only n table call c k =
-    let d = closest-cover n table call c (k .below) (k .around) in
+    let d = closest-cover table call n c (k .below) (k .around) in
     let e : width (intervalAt table c) ≡ width (intervalAt table (closest n table call))
     = omega (arith, k .narrowest (closest n table call) (d .below) (d .around), d .narrowest c (k .below) (k .around)) in
     omega (arith, k .lowest (closest n table call) (d .below) (d .around) (sym e), d .lowest c (k .below) (k .around) e)
+
+-- where there is none, it gives 0
+pub closest-none : (n : ℕ) (table : List ℕ) (call : Interval) → ((r : ℕ) → r < n → contains (intervalAt table r) call ≡ false) → closest n table call ≡ 0
+unfolding closest
+closest-none zero table call f = refl
+closest-none (suc k) table call f = rw (f k (omega arith)) (closest-none k table call (λ r h. f r (omega arith)))
 
 -- a call that names one node, however often, has the call's interval of the one name
 pub same-names : (table : List ℕ) (x name : ℕ) (names : List ℕ) → ((r : ℕ) → In r (name ∷ names) → r ≡ x) → callInterval table (name ∷ names) ≡ callInterval table (x ∷ [])
@@ -53,40 +50,39 @@ same-names table x name (m ∷ ms) f =
     name-once table name (m ∷ ms) (subst (λ (r : ℕ). In r (m ∷ ms)) (f m (tail head) ∙ sym (f name head)) head)
     ∙ same-names table x m ms (λ r i. f r (tail i))
 
--- OVER JUDGED TABLES
-module _ (n : ℕ) (table : List ℕ) (judged : Judged n table) where
+-- OF A CALL THAT NAMES ONE NODE, with low at most high, the cover's interval is the node's
+pub one-name : (n : ℕ) (table : List ℕ) (x : ℕ) → x < n → lowAt table x ≤ highAt table x → intervalAt table (coverOf n table (x ∷ [])) ≡ intervalAt table x
+unfolding least greatest foldFrom
+one-name n table x h o =
+    let c = coverOf n table (x ∷ []) in
+    let a = contains-by (intervalAt table x) (intervalAt table x) (omega arith) (omega arith) in
+    let k = closest-cover table (intervalAt table x) n x h a in
+    let e = contains-ends (intervalAt table c) (intervalAt table x) (k .around) in
+    let low : lowAt table c ≡ lowAt table x = omega (arith, e .0, e .1, k .narrowest x h a) in
+    let high : highAt table c ≡ highAt table x = omega (arith, e .0, e .1, k .narrowest x h a) in
+    rw (low, high)
+
+-- however often it names it
+pub one-name-again : (n : ℕ) (table : List ℕ) (x name : ℕ) (names : List ℕ) → x < n → lowAt table x ≤ highAt table x → ((r : ℕ) → In r (name ∷ names) → r ≡ x)
+    → intervalAt table (coverOf n table (name ∷ names)) ≡ intervalAt table x
+one-name-again n table x name names h o same = ap (λ (call : Interval). intervalAt table (closest n table call)) (same-names table x name names same) ∙ one-name n table x h o
+
+-- OVER ROOTED TABLES
+module _ (n : ℕ) (table : List ℕ) (rooted : Rooted n table) (name : ℕ) (names : List ℕ) (below : (r : ℕ) → In r (name ∷ names) → r < n) where
   -- the root's interval contains that of every call of nodes, so some node's does,
-  pub root-contains : (name : ℕ) (names : List ℕ) → ((r : ℕ) → In r (name ∷ names) → r < n) → contains (intervalAt table 0) (callInterval table (name ∷ names)) ≡ true
-  root-contains name names below =
+  pub root-contains : contains (intervalAt table 0) (callInterval table (name ∷ names)) ≡ true
+  root-contains =
       let inside : (r : ℕ) → In r (name ∷ names) → (lowAt table 0 ≤ lowAt table r) × (highAt table r ≤ highAt table 0)
-      = λ r i. contains-ends (intervalAt table 0) (intervalAt table r) (judged .in-root r (below r i)) in
+      = λ r i. contains-ends (intervalAt table 0) (intervalAt table r) (rooted .in-root r (below r i)) in
       contains-by (intervalAt table 0) (callInterval table (name ∷ names))
       (least-is (λ k. lowAt table 0 ≤ k) (lowAt table name) (map (lowAt table) (name ∷ names)) head (map-is (lowAt table) (λ k. lowAt table 0 ≤ k) (name ∷ names) (λ r i. inside r i .0)))
       (greatest-is (λ k. k ≤ highAt table 0) (highAt table name) (map (highAt table) (name ∷ names)) head (map-is (highAt table) (λ k. k ≤ highAt table 0) (name ∷ names) (λ r i. inside r i .1)))
 
   -- and the definition gives the cover
-  pub cover-is : (name : ℕ) (names : List ℕ) → ((r : ℕ) → In r (name ∷ names) → r < n) → IsCover n table (callInterval table (name ∷ names)) (coverOf n table (name ∷ names))
-  cover-is name names below =
-      closest-cover n table (callInterval table (name ∷ names)) 0 (omega (arith, below name head)) (root-contains name names below)
+  pub cover-is : IsCover n table (callInterval table (name ∷ names)) (coverOf n table (name ∷ names))
+  cover-is = closest-cover table (callInterval table (name ∷ names)) n 0 (omega (arith, below name head)) root-contains
 
-  -- A CALL THAT NAMES ONE NODE: the cover's interval is the node's
-  pub one-name : (x : ℕ) → x < n → intervalAt table (coverOf n table (x ∷ [])) ≡ intervalAt table x
-  unfolding least greatest foldFrom
-  one-name x h =
-      let c = coverOf n table (x ∷ []) in
-      let k = closest-cover n table (intervalAt table x) x h (contains-by (intervalAt table x) (intervalAt table x) (omega arith) (omega arith)) in
-      let e = contains-ends (intervalAt table c) (intervalAt table x) (k .around) in
-      let w = k .narrowest x h (contains-by (intervalAt table x) (intervalAt table x) (omega arith) (omega arith)) in
-      let low : lowAt table c ≡ lowAt table x = omega (arith, e .0, e .1, w, judged .ordered x h) in
-      let high : highAt table c ≡ highAt table x = omega (arith, e .0, e .1, w, judged .ordered x h) in
-      rw (low, high)
-
-  -- however often it names it
-  pub one-name-again : (x name : ℕ) (names : List ℕ) → x < n → ((r : ℕ) → In r (name ∷ names) → r ≡ x)
-      → intervalAt table (coverOf n table (name ∷ names)) ≡ intervalAt table x
-  one-name-again x name names h same = ap (λ (call : Interval). intervalAt table (closest n table call)) (same-names table x name names same) ∙ one-name x h
-
--- OVER EVERY LEGAL HIERARCHY the built intervals are such
+-- OVER EVERY LEGAL HIERARCHY
 module _ (n : ℕ) (table : List ℕ) (edgeCount : ℕ) (legal : Legal n table edgeCount) where
   abbrev es : List ℕ
   es = edgesOf table edgeCount
@@ -94,8 +90,9 @@ module _ (n : ℕ) (table : List ℕ) (edgeCount : ℕ) (legal : Legal n table e
   abbrev built : List ℕ
   built = intervalTable n es
 
-  pub built-judged : Judged n built
-  built-judged =
+  -- the built intervals are rooted,
+  pub built-rooted : Rooted n built
+  built-rooted =
       let some = promised n table edgeCount legal .some in
       record {
         ordered = λ node h. omega (arith, built-low n es node h, built-high n es node h, interval-real n table edgeCount legal node h .ordered);
@@ -106,10 +103,6 @@ module _ (n : ℕ) (table : List ℕ) (edgeCount : ℕ) (legal : Legal n table e
             (omega (arith, built-high n es 0 some, built-high n es node h, i .high-end));
       }
 
-  -- the cover's interval contains the call's
-  pub cover-contains : (name : ℕ) (names : List ℕ) → ((r : ℕ) → In r (name ∷ names) → r < n) → contains (intervalAt built (coverOf n built (name ∷ names))) (callInterval built (name ∷ names)) ≡ true
-  cover-contains name names below = cover-is n built built-judged name names below .around
-
-  -- the cover is a node
-  pub cover-below : (names : List ℕ) → coverOf n built names < n
-  cover-below names = closest-below built (callInterval built names) n (promised n table edgeCount legal .some)
+  -- and the definition gives the cover
+  pub built-cover : (name : ℕ) (names : List ℕ) → ((r : ℕ) → In r (name ∷ names) → r < n) → IsCover n built (callInterval built (name ∷ names)) (coverOf n built (name ∷ names))
+  built-cover = cover-is n built built-rooted

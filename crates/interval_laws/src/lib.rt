@@ -1,1 +1,2 @@
-// Theorems about every legal hierarchy, over the definitions of `intervals`: proofs/Laws.antt. No function is here.
+// Theorems about every legal hierarchy, proofs/Laws.antt, and about the cover over any table, proofs/Covers.antt, over the definitions of `intervals`. No
+// function is here.

@@ -13,7 +13,7 @@ use Rattle.intervals.specs.Lists.{allBelow, anyBelow, any}
 use Rattle.intervals.proofs.Bools.{bool, and-left, and-right, and-both, or-left, or-right, or-neither}
 
 -- below n + 1 is n, or below n
-below-more : {P : Type 0} (i n : ℕ) → i < suc n → (i ≡ n → P) → (i < n → P) → P
+pub below-more : {P : Type 0} (i n : ℕ) → i < suc n → (i ≡ n → P) → (i < n → P) → P
 below-more i n h f g = bool (eqb i n) (λ e. f (eqb-true i n e)) (λ e. let d = eqb-false i n e in g (omega (arith, d)))
 
 module _ (p : ℕ → Bool) where

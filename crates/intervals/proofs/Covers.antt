@@ -9,9 +9,10 @@ use lib.Dec.{ltb}
 use lib.ListN.{length, getD, drop, drop-of-length-le}
 use borrow.Author.Tests.{ltb-true, ltb-false, not-true}
 use Rattle.intervals.specs.Lists.{foldFrom, least, greatest}
-use Rattle.intervals.specs.Cover.{lowAt, highAt, intervalAt, callInterval, contains, width, closer, closerOf, closest}
+use Rattle.intervals.specs.Cover.{lowAt, highAt, intervalAt, callInterval, contains, width, closer, closerOf, closest, IsCover}
 use Rattle.intervals.specs.declared.Interval.{Interval}
 use Rattle.intervals.proofs.Bools.{bool, not-both, and-left, and-right, or-either}
+use Rattle.intervals.proofs.Bounded.{below-more}
 use Rattle.intervals.proofs.Loops.{drop-step}
 use Rattle.intervals.proofs.Marks.{past}
 
@@ -22,39 +23,38 @@ module _ (table : List ℕ) (call : Interval) where
   abbrev wide : ℕ → ℕ
   wide r = width (intervalAt table r)
 
-  -- c is the cover among the nodes below k
-  pub record Closest (k c : ℕ) : Type 0 where
-    pub below : c ≤ k - 1
-    pub around-too : (r : ℕ) → r < k → around r ≡ true → around c ≡ true
-    pub narrowest : (r : ℕ) → r < k → around r ≡ true → wide c ≤ wide r
-    pub lowest : (r : ℕ) → r < k → around r ≡ true → wide r ≡ wide c → c ≤ r
-    pub root : ((r : ℕ) → r < k → around r ≡ false) → c ≡ 0
-
-  -- below k + 1 is k, or below k
-  last-or : {P : Type 0} (r k : ℕ) → r < suc k → (r ≡ k → P) → (r < k → P) → P
-  last-or r k h f g = bool (ltb r k) (λ e. g (ltb-true r k e)) (λ e. f (let d = ltb-false r k e in omega arith))
+  -- what the definition has of the nodes below k: a number that is 0 or below k and, where some interval contains the call's, the cover
+  record Found (k c : ℕ) : Type 0 where
+    below : c ≤ k - 1
+    cover : (r : ℕ) → r < k → around r ≡ true → IsCover k table call c
 
   -- k is closer than the best so far
-  closest-yes : (k c : ℕ) → Closest k c → around k ≡ true → (around c ≡ true → wide k < wide c) → Closest (suc k) k
-  closest-yes k c b a n =
-      let wider : (r : ℕ) → r < k → around r ≡ true → wide k < wide r = λ r l h. omega (arith, n (b .around-too r l h), b .narrowest r l h) in
+  found-closer : (k c : ℕ) → Found k c → around k ≡ true → (around c ≡ true → wide k < wide c) → Found (suc k) k
+  found-closer k c f a n =
+      let wider : (r : ℕ) → r < k → around r ≡ true → wide k < wide r = λ r l h. let v = f .cover r l h in omega (arith, n (v .around), v .narrowest r l h) in
       record {
         below = omega arith;
-        around-too = λ r l h. a;
-        narrowest = λ r l h. last-or r k l (λ e. rw e (omega arith)) (λ m. omega (arith, wider r m h));
-        lowest = λ r l h q. last-or r k l (λ e. omega (arith, e)) (λ m. absurd (omega (arith, wider r m h, q)));
-        root = λ f. not-both (around k) a (f k (omega arith));
+        cover = λ r l h.
+            record {
+              below = omega arith;
+              around = a;
+              narrowest = λ s m g. below-more s k m (λ e. rw e (omega arith)) (λ i. omega (arith, wider s i g));
+              lowest = λ s m g q. below-more s k m (λ e. omega (arith, e)) (λ i. absurd (omega (arith, wider s i g, q)));
+            };
       }
 
   -- or it is not
-  closest-no : (k c : ℕ) → Closest k c → (around k ≡ true → (around c ≡ true) × (wide c ≤ wide k)) → Closest (suc k) c
-  closest-no k c b n =
+  found-past : (k c : ℕ) → Found k c → (around k ≡ true → (around c ≡ true) × (wide c ≤ wide k)) → Found (suc k) c
+  found-past k c f n =
       record {
-        below = omega (arith, b .below);
-        around-too = λ r l h. last-or r k l (λ e. n (subst (λ (x : ℕ). around x ≡ true) e h) .0) (λ m. b .around-too r m h);
-        narrowest = λ r l h. last-or r k l (λ e. rw e (n (subst (λ (x : ℕ). around x ≡ true) e h) .1)) (λ m. b .narrowest r m h);
-        lowest = λ r l h q. last-or r k l (λ e. omega (arith, b .below, e)) (λ m. b .lowest r m h q);
-        root = λ f. b .root (λ r l. f r (omega arith));
+        below = omega (arith, f .below);
+        cover = λ r l h.
+            record {
+              below = omega (arith, f .below);
+              around = below-more r k l (λ e. n (subst (λ (x : ℕ). around x ≡ true) e h) .0) (λ i. f .cover r i h .around);
+              narrowest = λ s m g. below-more s k m (λ e. rw e (n (subst (λ (x : ℕ). around x ≡ true) e g) .1)) (λ i. f .cover s i g .narrowest s i g);
+              lowest = λ s m g q. below-more s k m (λ e. omega (arith, f .below, e)) (λ i. f .cover s i g .lowest s i g q);
+            };
       }
 
   -- a test that fails though k's interval contains the call's
@@ -63,35 +63,31 @@ module _ (table : List ℕ) (call : Interval) where
   neither true false c p q = not-both true refl q
   neither false b c p q = not-both false p refl
 
-  closest-more : (k c : ℕ) → Closest k c → Closest (suc k) (closerOf table call k c)
-  closest-more k c b =
+  found-more : (k c : ℕ) → Found k c → Found (suc k) (closerOf table call k c)
+  found-more k c f =
       bool (closer call (intervalAt table k) (intervalAt table c))
       (λ t. rw t
-      (closest-yes k c b (and-left (around k) (not (around c) || ltb (wide k) (wide c)) t)
+      (found-closer k c f (and-left (around k) (not (around c) || ltb (wide k) (wide c)) t)
       (λ a. or-either (not (around c)) (ltb (wide k) (wide c)) (and-right (around k) (not (around c) || ltb (wide k) (wide c)) t)
       (λ q. not-both (around c) a (not-true (around c) q))
       (ltb-true (wide k) (wide c)))))
       (λ t. rw t
-      (closest-no k c b (λ a. let q = neither (around k) (around c) (ltb (wide k) (wide c)) a t in (q .0, ltb-false (wide k) (wide c) (q .1)))))
+      (found-past k c f (λ a. let q = neither (around k) (around c) (ltb (wide k) (wide c)) a t in (q .0, ltb-false (wide k) (wide c) (q .1)))))
 
-  -- the definition finds it
-  pub closest-is : (k : ℕ) → Closest k (closest k table call)
+  found : (k : ℕ) → Found k (closest k table call)
   unfolding closest
-  closest-is zero =
-      record {
-        below = omega arith;
-        around-too = λ r l h. absurd (omega arith);
-        narrowest = λ r l h. absurd (omega arith);
-        lowest = λ r l h q. absurd (omega arith);
-        root = λ f. refl;
-      }
-  closest-is (suc k) = closest-more k (closest k table call) (closest-is k)
+  found zero = record { below = omega arith; cover = λ r l h. absurd (omega arith) }
+  found (suc k) = found-more k (closest k table call) (found k)
 
-  -- it is a node
+  -- what the definition gives is a node,
   pub closest-below : (n : ℕ) → 1 ≤ n → closest n table call < n
-  closest-below n h = omega (arith, closest-is n .below)
+  closest-below n h = omega (arith, found n .below)
 
-  -- THE LOOP: it has the best of the first k nodes and its interval
+  -- and where the interval of some node contains the call's, it is the cover
+  pub closest-cover : (n r : ℕ) → r < n → contains (intervalAt table r) call ≡ true → IsCover n table call (closest n table call)
+  closest-cover n = found n .cover
+
+  -- THE LOOP: it has the best of the first k nodes, and the interval of that
   pub record Looking (k best : ℕ) (at : Interval) : Type 0 where
     pub found : best ≡ closest k table call
     pub interval : at ≡ intervalAt table best
@@ -115,7 +111,7 @@ module _ (table : List ℕ) (call : Interval) where
     pub looking-past : closer call here at ≡ false → Looking (k + 1) best at
     looking-past t = record { found = turn false t; interval = l .interval }
 
-  -- past the table all intervals are alike, so that the first node there stands for all
+  -- past the table all intervals are alike, so that one node there stands for all
   past-same : (r s : ℕ) → length table ≤ 2 * r → length table ≤ 2 * s → intervalAt table r ≡ intervalAt table s
   past-same r s h g =
       rw (past table (2 * r) 0 h, past table (2 * s) 0 g, past table (2 * r + 1) 0 (omega arith), past table (2 * s + 1) 0 (omega arith))
@@ -129,8 +125,8 @@ module _ (table : List ℕ) (call : Interval) where
       (λ t.
       let a = subst (λ (x : Interval). contains x call ≡ true) same (and-left (around k) (not (around c) || ltb (wide k) (wide c)) t) in
       or-either (not (around c)) (ltb (wide k) (wide c)) (and-right (around k) (not (around c) || ltb (wide k) (wide c)) t)
-      (λ q. not-both (around c) (closest-is k .around-too r l a) (not-true (around c) q))
-      (λ q. absurd (omega (arith, ltb-true (wide k) (wide c) q, closest-is k .narrowest r l a, ap width same))))
+      (λ q. not-both (around c) (closest-cover k r l a .around) (not-true (around c) q))
+      (λ q. absurd (omega (arith, ltb-true (wide k) (wide c) q, closest-cover k r l a .narrowest r l a, ap width same))))
       (λ t. ap (λ (x : Bool). cond x k c) t)
 
   closest-stays : (m n r : ℕ) → length table ≤ 2 * r → r < m → m ≤ n → closest n table call ≡ closest m table call

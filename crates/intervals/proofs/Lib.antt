@@ -6,9 +6,9 @@ pub mod Marks
 pub mod Reaches
 pub mod Found
 pub mod Legals
-pub mod Covers
 pub mod Loops
 pub mod Bounded
+pub mod Covers
 pub mod Distinct
 pub mod EdgeLoops
 pub mod Repeats

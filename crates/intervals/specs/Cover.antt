@@ -1,7 +1,8 @@
 -- The call's interval (01) and its cover (02, point 1), over an interval table of any contents. Assumes nothing.
+use mathlib.Core.Path.{_≡_}
 use mathlib.Core.List.{List, map}
-use mathlib.Core.Bool.{Bool, not, cond, _&&_, _||_}
-use Prim.Native.Nat.{ℕ, zero, suc, _+_, _-_, _*_}
+use mathlib.Core.Bool.{Bool, true, not, cond, _&&_, _||_}
+use Prim.Native.Nat.{ℕ, zero, suc, _+_, _-_, _*_, _≤_, _<_}
 use lib.Dec.{leb, ltb}
 use lib.ListN.{getD}
 use Rattle.intervals.specs.Lists.{least, greatest}
@@ -47,3 +48,13 @@ closest (suc k) table call = closerOf table call k (closest k table call)
 -- the cover of a call that names these nodes
 abbrev pub coverOf : ℕ → List ℕ → List ℕ → ℕ
 coverOf n table names = closest n table (callInterval table names)
+
+-- WHAT THE LAWS SAY OF IT: c is the cover of a call's interval among n nodes
+pub record IsCover (n : ℕ) (table : List ℕ) (call : Interval) (c : ℕ) : Type 0 where
+  -- it is one of the nodes whose interval contains the call's;
+  pub below : c < n
+  pub around : contains (intervalAt table c) call ≡ true
+  -- of all these the narrowest,
+  pub narrowest : (r : ℕ) → r < n → contains (intervalAt table r) call ≡ true → width (intervalAt table c) ≤ width (intervalAt table r)
+  -- and of equally narrow ones the lowest number
+  pub lowest : (r : ℕ) → r < n → contains (intervalAt table r) call ≡ true → width (intervalAt table r) ≡ width (intervalAt table c) → c ≤ r

@@ -522,7 +522,7 @@ fn closer(call: Interval, a: Interval, b: Interval) -> bool
     contains(a, call) & (!contains(b, call) | (width(a) < width(b)))
 }
 
-// How many of n nodes are worth a look. Past the end of the table all intervals are the same, so that the first node there stands for all.
+// How many of n nodes are worth a look. Past the end of the table all intervals are the same, so that a node there stands for all.
 fn worth_a_look(n: usize, intervals: &[u16]) -> usize
     ensures { λ r. ⌜ r ≡ min n (length (now (intervals .entry)) / 2 + 2) ⌝ }
 {
@@ -533,7 +533,7 @@ fn worth_a_look(n: usize, intervals: &[u16]) -> usize
     most
 }
 
-// Of n nodes the closest to a call's interval, by one pass over them.
+// Of n nodes the closest to a call's interval, by one pass over those worth a look: over all of them where the table has their intervals.
 fn closest(n: usize, intervals: &[u16], call: Interval) -> usize
     ensures { λ r. ⌜ r ≡ closestOf n (now (intervals .entry)) call ⌝ }
 {

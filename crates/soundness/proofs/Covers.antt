@@ -1,5 +1,6 @@
 -- THEOREMS about the cover that enter takes (02, point 1). Assumes nothing.
 use mathlib.Core.Path.{_≡_, refl, ap, subst}
+use mathlib.Core.Logic.{_⊎_, inl, inr}
 use mathlib.Core.List.{List, [], _∷_}
 use mathlib.Core.Bool.{Bool, true, false, not, _&&_, _||_}
 use mathlib.Core.Option.{Option, none, some}
@@ -11,22 +12,25 @@ use lib.Seq.{length-take-le}
 use borrow.Author.Tests.{leb-true, ltb-true, ltb-false, not-false}
 use Rattle.intervals.specs.Lists.{anyBelow, any}
 use Rattle.intervals.specs.Answer.{Answer, done, refused, _when_}
-use Rattle.intervals.specs.Cover.{intervalAt, callInterval}
+use Rattle.intervals.specs.Cover.{intervalAt, callInterval, IsCover}
 use Rattle.intervals.specs.declared.Interval.{Interval}
 use Rattle.intervals.proofs.Bools.{bool, not-both, and-left, and-right, or-left, or-right}
 use Rattle.intervals.proofs.Refusals.{NoneHolds, refusal-none}
 use Rattle.intervals.proofs.Bounded.{any-none}
 use Rattle.intervals.proofs.Members.{In, head}
 use Rattle.intervals.proofs.Distinct.{any-in}
-use Rattle.interval_laws.specs.Covers.{IsCover, Judged}
+use Rattle.interval_laws.specs.Covers.{Rooted}
 use Rattle.interval_laws.proofs.Covers.{contains-by, cover-is, one-name-again}
 use Rattle.desk.specs.declared.Mode.{Mode}
 use Rattle.desk.specs.declared.Lock.{Lock}
+use Rattle.desk.specs.declared.Stage.the-variants.{Waiting, Holding}
 use Rattle.desk.specs.declared.Desk.{Desk}
 use Rattle.desk.specs.Locks.{realInterval}
 use Rattle.desk.specs.Desks.{Hierarchy, lowIn, highIn, coverIn, stageAt, isOut}
 use Rattle.desk.specs.Sound.{soundDesk}
 use Rattle.desk.specs.Steps.{tablesShort, intervalWrong, stepChecks, Admission, granted, waits, namesWrong, enterRefusal, lockOn, free, enterIf, enterUnless, enterStep}
+use Rattle.soundness.proofs.Orderly.{Shaped}
+use Rattle.soundness.proofs.Changes.{stage-same}
 
 -- an interval that refusal 10 lets pass is real, and inside node 0's
 pub not-wrong : (H : Hierarchy) (node : ℕ) → intervalWrong H node ≡ false
@@ -40,9 +44,9 @@ not-wrong H node e =
       ltb-false (highIn H 0) high (or-right (not (realInterval low high) || ltb low (lowIn H 0)) (ltb (highIn H 0) high) e),
     )
 
--- where refusal 10 finds no interval wrong, the intervals are judged
-pub judged-right : (H : Hierarchy) → anyBelow (H .n) (intervalWrong H) ≡ false → Judged (H .n) (H .intervals)
-judged-right H fine = record {
+-- where refusal 10 finds no interval wrong, the intervals are rooted
+pub right-rooted : (H : Hierarchy) → anyBelow (H .n) (intervalWrong H) ≡ false → Rooted (H .n) (H .intervals)
+right-rooted H fine = record {
   ordered = λ node h.
       let low = lowIn H node in
       let high = highIn H node in
@@ -54,16 +58,20 @@ judged-right H fine = record {
     right node h = not-wrong H node (any-none (intervalWrong H) (H .n) node fine h)
 
 -- AN ENTER THAT IS NOT REFUSED, over any tables and desk
-module _ (H : Hierarchy) (d : Desk) (party : ℕ) (names : List ℕ) (nameCount : ℕ) (fine : enterRefusal H d party names nameCount ≡ none) where
+module _ (H : Hierarchy) (d : Desk) (party : ℕ) (mode : Mode) (names : List ℕ) (nameCount : ℕ) (fine : enterRefusal H d party names nameCount ≡ none) where
   -- the names of the call
   abbrev called : List ℕ
   called = take nameCount names
 
+  -- and its lock
+  abbrev lock : Lock
+  lock = lockOn H mode (coverIn H called)
+
   none-holds : NoneHolds (stepChecks H d party (ltb (length names) nameCount) (12 when not (isOut (stageAt d party)) ∷ 15 when namesWrong (H .n) names nameCount ∷ []))
   none-holds = refusal-none _ fine
 
-  judged : Judged (H .n) (H .intervals)
-  judged = judged-right H (or-left (anyBelow (H .n) (intervalWrong H)) (not (soundDesk H d)) (none-holds .1 .1 .1 .1 .0))
+  rooted : Rooted (H .n) (H .intervals)
+  rooted = right-rooted H (or-left (anyBelow (H .n) (intervalWrong H)) (not (soundDesk H d)) (none-holds .1 .1 .1 .1 .0))
 
   some-name : 1 ≤ length called
   some-name =
@@ -79,22 +87,36 @@ module _ (H : Hierarchy) (d : Desk) (party : ℕ) (names : List ℕ) (nameCount 
       (ltb-true r (H .n))
       (λ e. not-both (any (λ node. not (ltb node (H .n))) called) (any-in (λ node. not (ltb node (H .n))) i (ap not e)) right)
 
-  -- takes the cover: of all nodes whose interval contains the call's the narrowest, of equally narrow ones the lowest number
-  pub enter-cover : IsCover (H .n) (H .intervals) (callInterval (H .intervals) called) (coverIn H called)
+  -- at the desk that it hands back the party holds this lock, or waits for it;
+  pub enter-stage : Shaped d
+      → (stageAt ((enterStep H d party mode names nameCount) .desk) party ≡ Holding lock) ⊎ (stageAt ((enterStep H d party mode names nameCount) .desk) party ≡ Waiting lock)
+  unfolding enterStep
+  enter-stage shape = rw fine (by (free d lock))
+    where
+      here : party < length (d .entries)
+      here = let k = ltb-false 31 party (none-holds .1 .1 .1 .1 .1 .0) in omega (arith, shape .entries)
+
+      by : (b : Bool) → (stageAt ((enterIf b d party lock) .desk) party ≡ Holding lock) ⊎ (stageAt ((enterIf b d party lock) .desk) party ≡ Waiting lock)
+      by true = inl (stage-same (d .entries) party (Holding lock) here)
+      by false = inr (stage-same (d .entries) party (Waiting lock) here)
+
+  -- the lock is on the cover: of all nodes whose interval contains the call's the narrowest, of equally narrow ones the lowest number;
+  pub enter-cover : IsCover (H .n) (H .intervals) (callInterval (H .intervals) called) (lock .cover)
   enter-cover = by called some-name nodes
     where
       by : (ns : List ℕ) → 1 ≤ length ns → ((r : ℕ) → In r ns → r < H .n) → IsCover (H .n) (H .intervals) (callInterval (H .intervals) ns) (coverIn H ns)
       by [] l f = absurd (omega arith)
-      by (name ∷ ns) l f = cover-is (H .n) (H .intervals) judged name ns f
+      by (name ∷ ns) l f = cover-is (H .n) (H .intervals) rooted name ns f
 
-  -- and where it names one node, however often, its lock has that node's interval
-  pub enter-one : (mode : Mode) (x : ℕ) → ((r : ℕ) → In r called → r ≡ x)
-      → (lockOn H mode (coverIn H called) .low ≡ lowIn H x) × (lockOn H mode (coverIn H called) .high ≡ highIn H x)
-  enter-one mode x same = let e = by called some-name nodes same in (ap (λ (a : Interval). a .low) e, ap (λ (a : Interval). a .high) e)
+  -- and where the call names one node, however often, the lock has that node's interval
+  pub enter-one : (x : ℕ) → ((r : ℕ) → In r called → r ≡ x) → (lock .low ≡ lowIn H x) × (lock .high ≡ highIn H x)
+  enter-one x same = let e = by called some-name nodes same in (ap (λ (a : Interval). a .low) e, ap (λ (a : Interval). a .high) e)
     where
       by : (ns : List ℕ) → 1 ≤ length ns → ((r : ℕ) → In r ns → r < H .n) → ((r : ℕ) → In r ns → r ≡ x) → intervalAt (H .intervals) (coverIn H ns) ≡ intervalAt (H .intervals) x
       by [] l f g = absurd (omega arith)
-      by (name ∷ ns) l f g = one-name-again (H .n) (H .intervals) judged x name ns (omega (arith, f name head, g name head)) g
+      by (name ∷ ns) l f g =
+          let h : x < H .n = omega (arith, f name head, g name head) in
+          one-name-again (H .n) (H .intervals) x name ns h (rooted .ordered x h) g
 
 -- THE COVER THAT ENTER ANSWERS WITH is the cover, over any tables and desk
 pub granted-cover : (H : Hierarchy) (d : Desk) (party : ℕ) (mode : Mode) (names : List ℕ) (nameCount c : ℕ)
@@ -119,4 +141,4 @@ granted-cover H d party mode names nameCount c e = by (enterRefusal H d party na
         → IsCover (H .n) (H .intervals) (callInterval (H .intervals) (take nameCount names)) c
     by (some k) fine e = not-both true refl cc
     by none fine e =
-        subst (IsCover (H .n) (H .intervals) (callInterval (H .intervals) (take nameCount names))) (admitted (free d l) e) (enter-cover H d party names nameCount fine)
+        subst (IsCover (H .n) (H .intervals) (callInterval (H .intervals) (take nameCount names))) (admitted (free d l) e) (enter-cover H d party mode names nameCount fine)

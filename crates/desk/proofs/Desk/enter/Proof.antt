@@ -13,7 +13,7 @@ use Rattle.intervals.specs.Answer.{_when_}
 use Rattle.intervals.proofs.Refusals.{refused-here, refused-later}
 use Rattle.desk.specs.Desks.{lent, stageAt, isOut}
 use Rattle.desk.specs.Steps.{namesWrong}
-use Rattle.desk.proofs.Judging.{judged-own, judged-some, refusal-nil, not-short, few-waiting, cover-below, party-below}
+use Rattle.desk.proofs.Judging.{judged-own, judged-some, refusal-nil, not-short, few-waiting, cover-fits, party-below}
 use Rattle.desk.proofs.Answering.{enter-refused, enter-granted, enter-waits}
 use Rattle.desk.proofs.Desk.enter.Statement.{statement}
 use Rattle.desk.proofs.Desk.enter.Tie as tie
@@ -40,7 +40,7 @@ slice-aggregate-cover c = let z = c .before .before .before .before .before .bef
 
 cast-lock-on : tie.Need-cast-lock-on
 cast-lock-on c = let z = c .before .before .before .before .before .before .before .before .before .before .before .before .args in let h = lent (z .n) (z .intervals .now) (z .edges .now) (z .count) in
-    omega (arith, c .cover .ensures, cover-below h (z .self) (z .party) (ltb (length (z .names .now)) (z .named)) _ (c .before .before .before .before .before .before .before .if1 .left) (c .before .before .before .before .before .before .before .before .judge .ensures .1) (take (z .named) (z .names .now)))
+    omega (arith, c .cover .ensures, cover-fits h (z .self) (z .party) (ltb (length (z .names .now)) (z .named)) _ (c .before .before .before .before .before .before .before .if1 .left) (c .before .before .before .before .before .before .before .before .judge .ensures .1) (take (z .named) (z .names .now)))
 
 granted-requires : tie.Need-granted-requires
 granted-requires c κs = let z = c .before .before .before .before .before .before .before .before .before .before .before .before .before .before .before .args in let h = lent (z .n) (z .intervals .now) (z .edges .now) (z .count) in
