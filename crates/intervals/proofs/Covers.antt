@@ -24,13 +24,13 @@ module _ (table : List ℕ) (call : Interval) where
   wide r = width (intervalAt table r)
 
   -- what the definition has of the nodes below k: a number that is 0 or below k and, where some interval contains the call's, the cover
-  record Found (k c : ℕ) : Type 0 where
+  record SoFar (k c : ℕ) : Type 0 where
     below : c ≤ k - 1
     cover : (r : ℕ) → r < k → around r ≡ true → IsCover k table call c
 
   -- k is closer than the best so far
-  found-closer : (k c : ℕ) → Found k c → around k ≡ true → (around c ≡ true → wide k < wide c) → Found (suc k) k
-  found-closer k c f a n =
+  so-far-closer : (k c : ℕ) → SoFar k c → around k ≡ true → (around c ≡ true → wide k < wide c) → SoFar (suc k) k
+  so-far-closer k c f a n =
       let wider : (r : ℕ) → r < k → around r ≡ true → wide k < wide r = λ r l h. let v = f .cover r l h in omega (arith, n (v .around), v .narrowest r l h) in
       record {
         below = omega arith;
@@ -44,8 +44,8 @@ module _ (table : List ℕ) (call : Interval) where
       }
 
   -- or it is not
-  found-past : (k c : ℕ) → Found k c → (around k ≡ true → (around c ≡ true) × (wide c ≤ wide k)) → Found (suc k) c
-  found-past k c f n =
+  so-far-past : (k c : ℕ) → SoFar k c → (around k ≡ true → (around c ≡ true) × (wide c ≤ wide k)) → SoFar (suc k) c
+  so-far-past k c f n =
       record {
         below = omega (arith, f .below);
         cover = λ r l h.
@@ -63,29 +63,29 @@ module _ (table : List ℕ) (call : Interval) where
   neither true false c p q = not-both true refl q
   neither false b c p q = not-both false p refl
 
-  found-more : (k c : ℕ) → Found k c → Found (suc k) (closerOf table call k c)
-  found-more k c f =
+  so-far-more : (k c : ℕ) → SoFar k c → SoFar (suc k) (closerOf table call k c)
+  so-far-more k c f =
       bool (closer call (intervalAt table k) (intervalAt table c))
       (λ t. rw t
-      (found-closer k c f (and-left (around k) (not (around c) || ltb (wide k) (wide c)) t)
+      (so-far-closer k c f (and-left (around k) (not (around c) || ltb (wide k) (wide c)) t)
       (λ a. or-either (not (around c)) (ltb (wide k) (wide c)) (and-right (around k) (not (around c) || ltb (wide k) (wide c)) t)
       (λ q. not-both (around c) a (not-true (around c) q))
       (ltb-true (wide k) (wide c)))))
       (λ t. rw t
-      (found-past k c f (λ a. let q = neither (around k) (around c) (ltb (wide k) (wide c)) a t in (q .0, ltb-false (wide k) (wide c) (q .1)))))
+      (so-far-past k c f (λ a. let q = neither (around k) (around c) (ltb (wide k) (wide c)) a t in (q .0, ltb-false (wide k) (wide c) (q .1)))))
 
-  found : (k : ℕ) → Found k (closest k table call)
+  so-far : (k : ℕ) → SoFar k (closest k table call)
   unfolding closest
-  found zero = record { below = omega arith; cover = λ r l h. absurd (omega arith) }
-  found (suc k) = found-more k (closest k table call) (found k)
+  so-far zero = record { below = omega arith; cover = λ r l h. absurd (omega arith) }
+  so-far (suc k) = so-far-more k (closest k table call) (so-far k)
 
   -- what the definition gives is a node,
   pub closest-below : (n : ℕ) → 1 ≤ n → closest n table call < n
-  closest-below n h = omega (arith, found n .below)
+  closest-below n h = omega (arith, so-far n .below)
 
   -- and where the interval of some node contains the call's, it is the cover
   pub closest-cover : (n r : ℕ) → r < n → contains (intervalAt table r) call ≡ true → IsCover n table call (closest n table call)
-  closest-cover n = found n .cover
+  closest-cover n = so-far n .cover
 
   -- THE LOOP: it has the best of the first k nodes, and the interval of that
   pub record Looking (k best : ℕ) (at : Interval) : Type 0 where

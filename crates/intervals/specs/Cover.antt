@@ -28,7 +28,7 @@ callInterval table names = record { low = least (map (lowAt table) names); high 
 abbrev pub contains : Interval → Interval → Bool
 contains a b = leb (a .low) (b .low) && leb (b .high) (a .high)
 
--- how wide an interval is
+-- how wide an interval is: its high less its low (0 where low is above high)
 abbrev pub width : Interval → ℕ
 width a = a .high - a .low
 
