@@ -4,7 +4,8 @@
     compare.py LISTING [--files N] [--seed S] [--keep DIR]
 
 LISTING is the program. It prints the seed, how often each answer and each refusal was seen, and the first difference; it exits 1 where there is
-one, or where a kind of answer that the paper has was never seen. --keep writes the file that differs into DIR.
+one, or where a kind of answer that the paper has was never seen, or a cover that was picked by its number from equally narrow records with
+different intervals. --keep writes the file that differs into DIR.
 Files are valid, of the wrong length, damaged with and without a check that was made right again (in all blocks, or in some), misordered,
 of legal and illegal hierarchies, some with many intervals of one width, and now and then of 128 or 129 blocks; most steps take effect, since
 the generator follows the desk with the model and picks parties and records by it.
@@ -65,13 +66,13 @@ def legal(rnd, n, most):
 
 
 def windows(rnd, n):
-    """Leaves below the root, and records over stretches of them that overlap: many intervals of one width, so that the lowest number decides."""
+    """Leaves below the root, and records over stretches of them that overlap, all of one width, so that the lowest number decides. n is 8 or more."""
     names = list(range(1, n))
     rnd.shuffle(names)
     leaves, over = names[:(2 * n + 2) // 3 - 1], names[(2 * n + 2) // 3 - 1:]
     edges = [(0, leaf) for leaf in leaves]
+    width = rnd.randrange(2, min(len(leaves), 6))
     for w in over:
-        width = rnd.randrange(1, len(leaves) // 2 + 1)
         first = rnd.randrange(len(leaves) - width)
         edges += [(0, w), (w, leaves[first]), (w, leaves[first + width])]
     return edges
@@ -102,15 +103,6 @@ def spoiled(rnd, n, edges):
 
 # ---- steps
 
-ties = collections.Counter()
-
-
-def tied(h, names):
-    """Whether another record is as narrow around the names as their cover, with another interval."""
-    low, high, c = min(h.low[x] for x in names), max(h.high[x] for x in names), h.cover(names)
-    return any(h.low[x] != h.low[c] and h.high[x] - h.low[x] == h.high[c] - h.low[c] and h.contains(x, low, high) for x in range(h.n))
-
-
 def steps(rnd, h, count):
     """Steps that mostly take effect, since the model's desk says who is where; one in eight is picked blindly."""
     desk, out = model.Desk(h), []
@@ -138,7 +130,6 @@ def steps(rnd, h, count):
             next_to = [x for x in range(h.n) if node < h.n and h.low[x] == h.high[node] + 1]
             if len(names) > 1 and next_to and rnd.random() < 0.4:
                 names = [node, rnd.choice(next_to)]
-            ties["all"] += all(x < h.n for x in names) and tied(h, names)
             r = record(3, party, rnd.choice((1, 2)), len(names), *names)
         elif choice < 0.75:
             if not blind:
@@ -202,7 +193,7 @@ def one(rnd):
     if style < 0.01:
         return "noise", rnd.randbytes(rnd.choice((0, 0, 1, 511, 512, 513, 1024, 65536, 65537, 66048, 131072)))
     n = rnd.choice((1, 2, 3, 4, 5, 6, 8, 10, 12, 16, 24, 40)) if style < 0.95 else rnd.choice((100, 255, 256))
-    if 5 <= n <= 40 and rnd.random() < 0.2:
+    if 8 <= n <= 40 and rnd.random() < 0.3:
         edges = windows(rnd, n)
     else:
         edges = legal(rnd, n, rnd.choice((0, 2, n, 2 * n)) if style < 0.95 else rnd.choice((100, 1024)))
@@ -218,6 +209,20 @@ def one(rnd):
         pass
     data = blocks(records)
     return damaged(rnd, data, records) if rnd.random() < 0.2 else (kind, data)
+
+
+def tied(data, lines):
+    """How many enters were granted a cover beside which another record is as narrow around the names, with another interval."""
+    if lines[0].startswith("refused"):
+        return 0
+    records, count = model.read_file(data), 0
+    h = model.Hierarchy(int.from_bytes(records[0][1:3], "little"), [(r[1], r[2]) for r in records if r[0] == 2])
+    for r, line in zip((r for r in records if r[0] > 2), lines):
+        if r[0] == 3 and line.split()[1] == "granted":
+            c, names = int(line.split()[2]), r[4:4 + r[3]]
+            low, high = min(h.low[x] for x in names), max(h.high[x] for x in names)
+            count += any(h.low[x] != h.low[c] and h.high[x] - h.low[x] == h.high[c] - h.low[c] and h.contains(x, low, high) for x in range(h.n))
+    return count
 
 
 def word(line):
@@ -250,7 +255,7 @@ def main():
         return 1
     rnd = random.Random(args.seed)
     seen, kinds = collections.Counter(), collections.Counter()
-    one_freed = more_freed = 0
+    one_freed = more_freed = ties = 0
     for k in range(args.files):
         kind, data = one(rnd)
         want = "".join(line + "\n" for line in model.listing(data))
@@ -266,6 +271,7 @@ def main():
                     f.write(data)
             return 1
         kinds[kind] += 1
+        ties += tied(data, want.splitlines())
         for line in want.splitlines():
             seen[word(line)] += 1
             if " left " in line:
@@ -274,9 +280,9 @@ def main():
     print(f"seed {args.seed}: {args.files} files agree")
     print("files: " + ", ".join(f"{w} {n}" for w, n in sorted(kinds.items())))
     print("lines: " + ", ".join(f"{w} {seen[w]}" for w in WANTED))
-    print(f"leaves that granted one waiter {one_freed}, several {more_freed}; enters with equally narrow records of other intervals {ties['all']}")
+    print(f"leaves that granted one waiter {one_freed}, several {more_freed}; covers picked by number from records of different intervals {ties}")
     missing = [w for w in WANTED if not seen[w]]
-    missing += [w for w, n in (("a leave that grants one", one_freed), ("a leave that grants several", more_freed), ("a tie of other intervals", ties["all"])) if not n]
+    missing += [w for w, n in (("a leave that grants one", one_freed), ("a leave that grants several", more_freed), ("a cover picked by number from records of different intervals", ties)) if not n]
     if missing:
         print("never seen: " + ", ".join(missing))
         return 1

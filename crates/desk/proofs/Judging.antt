@@ -113,12 +113,20 @@ module _ (H : Hierarchy) (d : Desk) where
   unfolding soundDesk
   unsound-2 = fails-2 (listsParties d) (listsOnce d) (listsWaiting d) (intervalsReal d) (coversRight H d) (holdersApart d) (waitersHeldUp d)
 
--- TWO CLAUSES THAT NEED NO PASS. A cover that is right, of intervals that are not wrong, is real
-not-wrong : (H : Hierarchy) (node : ℕ) → anyBelow (H .n) (intervalWrong H) ≡ false → node < H .n → realInterval (lowIn H node) (highIn H node) ≡ true
+-- the interval of a node, where refusal 10 finds none wrong, is real and inside node 0's
+pub not-wrong : (H : Hierarchy) (node : ℕ) → anyBelow (H .n) (intervalWrong H) ≡ false → node < H .n
+    → (realInterval (lowIn H node) (highIn H node) ≡ true) × (lowIn H 0 ≤ lowIn H node) × (highIn H node ≤ highIn H 0)
 not-wrong H node right h =
+    let low = lowIn H node in
+    let high = highIn H node in
     let w = any-none (intervalWrong H) (H .n) node right h in
-    let u = or-left (not (realInterval (lowIn H node) (highIn H node)) || ltb (lowIn H node) (lowIn H 0)) (ltb (highIn H 0) (highIn H node)) w in
-    not-false (realInterval (lowIn H node) (highIn H node)) (or-left (not (realInterval (lowIn H node) (highIn H node))) (ltb (lowIn H node) (lowIn H 0)) u)
+    let u = or-left (not (realInterval low high) || ltb low (lowIn H 0)) (ltb (highIn H 0) high) w in (
+      not-false (realInterval low high) (or-left (not (realInterval low high)) (ltb low (lowIn H 0)) u),
+      ltb-false low (lowIn H 0) (or-right (not (realInterval low high)) (ltb low (lowIn H 0)) u),
+      ltb-false (highIn H 0) high (or-right (not (realInterval low high) || ltb low (lowIn H 0)) (ltb (highIn H 0) high) w),
+    )
+
+-- TWO CLAUSES THAT NEED NO PASS. A cover that is right, of intervals that are not wrong, is real
 
 lock-covered : (H : Hierarchy) (l : Lock) → anyBelow (H .n) (intervalWrong H) ≡ false → coverRight H l ≡ true → lockReal l ≡ true
 lock-covered H l right e =
@@ -126,7 +134,7 @@ lock-covered H l right e =
     let below = ltb-true (l .cover) (H .n) (and-left (ltb (l .cover) (H .n)) (eqb (lowIn H (l .cover)) (l .low)) two) in
     let low : lowIn H (l .cover) ≡ l .low = eqb-true _ _ (and-right (ltb (l .cover) (H .n)) (eqb (lowIn H (l .cover)) (l .low)) two) in
     let high : highIn H (l .cover) ≡ l .high = eqb-true _ _ (and-right (ltb (l .cover) (H .n) && eqb (lowIn H (l .cover)) (l .low)) (eqb (highIn H (l .cover)) (l .high)) e) in
-    ap (λ (k : ℕ). realInterval k (l .high)) (sym low) ∙ ap (realInterval (lowIn H (l .cover))) (sym high) ∙ not-wrong H (l .cover) right below
+    ap (λ (k : ℕ). realInterval k (l .high)) (sym low) ∙ ap (realInterval (lowIn H (l .cover))) (sym high) ∙ not-wrong H (l .cover) right below .0
 
 stage-covered : (H : Hierarchy) (s : Stage) → anyBelow (H .n) (intervalWrong H) ≡ false → ofLock (coverRight H) s ≡ true → ofLock lockReal s ≡ true
 stage-covered H Out right e = refl

@@ -2,7 +2,7 @@
 use mathlib.Core.Path.{_≡_, refl, ap, subst}
 use mathlib.Core.Logic.{_⊎_, inl, inr}
 use mathlib.Core.List.{List, [], _∷_}
-use mathlib.Core.Bool.{Bool, true, false, not, _&&_, _||_}
+use mathlib.Core.Bool.{Bool, true, false, not, _&&_}
 use mathlib.Core.Option.{Option, none, some}
 use Prim.Native.Nat.{ℕ, _≤_, _<_}
 use native.Mathlib.Omega.{arith}
@@ -16,7 +16,6 @@ use Rattle.intervals.specs.Cover.{intervalAt, callInterval, IsCover}
 use Rattle.intervals.specs.declared.Interval.{Interval}
 use Rattle.intervals.proofs.Bools.{bool, not-both, and-left, and-right, or-left, or-right}
 use Rattle.intervals.proofs.Refusals.{NoneHolds, refusal-none}
-use Rattle.intervals.proofs.Bounded.{any-none}
 use Rattle.intervals.proofs.Members.{In, head}
 use Rattle.intervals.proofs.Distinct.{any-in}
 use Rattle.interval_laws.specs.Covers.{Rooted}
@@ -25,24 +24,11 @@ use Rattle.desk.specs.declared.Mode.{Mode}
 use Rattle.desk.specs.declared.Lock.{Lock}
 use Rattle.desk.specs.declared.Stage.the-variants.{Waiting, Holding}
 use Rattle.desk.specs.declared.Desk.{Desk}
-use Rattle.desk.specs.Locks.{realInterval}
 use Rattle.desk.specs.Desks.{Hierarchy, lowIn, highIn, coverIn, stageAt, isOut}
 use Rattle.desk.specs.Sound.{soundDesk}
 use Rattle.desk.specs.Steps.{tablesShort, intervalWrong, stepChecks, Admission, granted, waits, namesWrong, enterRefusal, lockOn, free, enterIf, enterUnless, enterStep}
-use Rattle.soundness.proofs.Orderly.{Shaped}
+use Rattle.desk.proofs.Judging.{not-wrong}
 use Rattle.soundness.proofs.Changes.{stage-same}
-
--- an interval that refusal 10 lets pass is real, and inside node 0's
-pub not-wrong : (H : Hierarchy) (node : ℕ) → intervalWrong H node ≡ false
-    → (realInterval (lowIn H node) (highIn H node) ≡ true) × (lowIn H 0 ≤ lowIn H node) × (highIn H node ≤ highIn H 0)
-not-wrong H node e =
-    let low = lowIn H node in
-    let high = highIn H node in
-    let a = or-left (not (realInterval low high) || ltb low (lowIn H 0)) (ltb (highIn H 0) high) e in (
-      not-false (realInterval low high) (or-left (not (realInterval low high)) (ltb low (lowIn H 0)) a),
-      ltb-false low (lowIn H 0) (or-right (not (realInterval low high)) (ltb low (lowIn H 0)) a),
-      ltb-false (highIn H 0) high (or-right (not (realInterval low high) || ltb low (lowIn H 0)) (ltb (highIn H 0) high) e),
-    )
 
 -- where refusal 10 finds no interval wrong, the intervals are rooted
 pub right-rooted : (H : Hierarchy) → anyBelow (H .n) (intervalWrong H) ≡ false → Rooted (H .n) (H .intervals)
@@ -50,14 +36,11 @@ right-rooted H fine = record {
   ordered = λ node h.
       let low = lowIn H node in
       let high = highIn H node in
-      leb-true low high (and-right (leb 1 low) (leb low high) (and-left (leb 1 low && leb low high) (leb high 256) (right node h .0)));
-  in-root = λ node h. contains-by (intervalAt (H .intervals) 0) (intervalAt (H .intervals) node) (right node h .1) (right node h .2);
+      leb-true low high (and-right (leb 1 low) (leb low high) (and-left (leb 1 low && leb low high) (leb high 256) (not-wrong H node fine h .0)));
+  in-root = λ node h. let i = not-wrong H node fine h in contains-by (intervalAt (H .intervals) 0) (intervalAt (H .intervals) node) (i .1) (i .2);
 }
-  where
-    right : (node : ℕ) → node < H .n → (realInterval (lowIn H node) (highIn H node) ≡ true) × (lowIn H 0 ≤ lowIn H node) × (highIn H node ≤ highIn H 0)
-    right node h = not-wrong H node (any-none (intervalWrong H) (H .n) node fine h)
 
--- AN ENTER THAT IS NOT REFUSED, over any tables and desk
+-- AN ENTER THAT IS NOT REFUSED, over any tables and, but where said, any desk
 module _ (H : Hierarchy) (d : Desk) (party : ℕ) (mode : Mode) (names : List ℕ) (nameCount : ℕ) (fine : enterRefusal H d party names nameCount ≡ none) where
   -- the names of the call
   abbrev called : List ℕ
@@ -87,14 +70,14 @@ module _ (H : Hierarchy) (d : Desk) (party : ℕ) (mode : Mode) (names : List �
       (ltb-true r (H .n))
       (λ e. not-both (any (λ node. not (ltb node (H .n))) called) (any-in (λ node. not (ltb node (H .n))) i (ap not e)) right)
 
-  -- at the desk that it hands back the party holds this lock, or waits for it;
-  pub enter-stage : Shaped d
+  -- at the desk that it hands back, from one with 32 entries, the party holds this lock, or waits for it;
+  pub enter-stage : length (d .entries) ≡ 32
       → (stageAt ((enterStep H d party mode names nameCount) .desk) party ≡ Holding lock) ⊎ (stageAt ((enterStep H d party mode names nameCount) .desk) party ≡ Waiting lock)
   unfolding enterStep
-  enter-stage shape = rw fine (by (free d lock))
+  enter-stage long = rw fine (by (free d lock))
     where
       here : party < length (d .entries)
-      here = let k = ltb-false 31 party (none-holds .1 .1 .1 .1 .1 .0) in omega (arith, shape .entries)
+      here = let k = ltb-false 31 party (none-holds .1 .1 .1 .1 .1 .0) in omega (arith, long)
 
       by : (b : Bool) → (stageAt ((enterIf b d party lock) .desk) party ≡ Holding lock) ⊎ (stageAt ((enterIf b d party lock) .desk) party ≡ Waiting lock)
       by true = inl (stage-same (d .entries) party (Holding lock) here)

@@ -30,10 +30,10 @@ use Rattle.desk.specs.Locks.{realInterval}
 use Rattle.desk.specs.Desks.{Hierarchy, lowIn, highIn, coverIn, entryOf, stageIn, stageAt, isOut, isWaiting, queueOf, freshDesk, againstHolder, againstWaiter, meetsHolder, meetsWaiter}
 use Rattle.desk.specs.Sound.{coverRight, soundDesk}
 use Rattle.desk.specs.Steps.{intervalWrong, stepChecks, lockOn, free, grantTo, queueLast, namesWrong, enterRefusal, enterIf, enterUnless, enterStep, getStep, putStep, Sweep, offerIf, offerTo, offer, sweep, afterLeaving, leaveWith, leaveRefusal, leaveUnless, leaveStep}
+use Rattle.desk.proofs.Judging.{not-wrong}
 use Rattle.history.proofs.Facts.{sweep-length}
 use Rattle.soundness.proofs.Laws.{unchanged-get, unchanged-put}
 use Rattle.soundness.proofs.Orderly.{Shaped, Reads, Orderly, HeldUp, sound-reads, places-long, sound-orderly, sound-held, made-sound}
-use Rattle.soundness.proofs.Covers.{not-wrong}
 use Rattle.soundness.proofs.Changes.{stage-same, stage-other, waits-apart, called, ended, admitted, granted, still-meets, up-set, up-last}
 
 -- SHAPE: a fresh desk has it
@@ -89,7 +89,7 @@ record Checked (H : Hierarchy) (party : ℕ) : Type 0 where
 checked : (H : Hierarchy) (d : Desk) (party : ℕ) (short : Bool) (own : List Check) → NoneHolds (stepChecks H d party short own) → Checked H party
 checked H d party short own f = record {
   cover-below = λ names. closest-below (H .intervals) (callInterval (H .intervals) names) (H .n) (right-size (H .n) (f .1 .0) .0);
-  real = λ node h. not-wrong H node (any-none (intervalWrong H) (H .n) node (or-left (anyBelow (H .n) (intervalWrong H)) (not (soundDesk H d)) (f .1 .1 .1 .1 .0)) h) .0;
+  real = λ node h. not-wrong H node (or-left (anyBelow (H .n) (intervalWrong H)) (not (soundDesk H d)) (f .1 .1 .1 .1 .0)) h .0;
   party-below = let k = ltb-false 31 party (f .1 .1 .1 .1 .1 .0) in omega arith;
 }
 
