@@ -9,15 +9,15 @@ use borrow.Author.Tests.{ltb-true, ltb-false, leb-true, eqb-false, eq-eqb, le-le
 use lib.Dec.{leb, ltb}
 use lib.ListN.{length, take, drop, length-append, length-take, take-append-drop}
 use lib.Seq.{length-take-le, take-at}
-use Rattle.intervals.specs.Lists.{over, Below}
-use Rattle.intervals.specs.Answer.{done, refused, answerOf}
-use Rattle.intervals.proofs.Bools.{bool, and-left, and-right, or-left}
-use Rattle.intervals.proofs.Refusals.{refusal-none}
+use Rattle.lists.specs.Lists.{over, Below}
+use Rattle.lists.specs.Answer.{done, refused, answerOf}
+use Rattle.lists.proofs.Bools.{bool, and-left, and-right, or-left}
+use Rattle.lists.proofs.Refusals.{refusal-none}
 use Rattle.blocks.specs.Block.{afterRecords, blockOf}
-use Rattle.blocks.specs.File.{afterBlocks, recordsOf, blocksOf, wholeBlocks, fileStage, fileRecords, notBlocks, readRefusal, roomAfter, readFile, blocksFor, fileOf, recordsWrong, writeRefusal, writeFile}
+use Rattle.blocks.specs.File.{afterBlocks, recordsOf, blocksOf, wholeBlocks, fileStage, fileRecords, notBlocks, readRefusal, FileResult, readFile, blocksFor, fileOf, recordsWrong, writeRefusal, writeFile}
 use Rattle.blocks.proofs.Stages.{blocks-most}
 use Rattle.blocks.proofs.Making.{length-block}
-use Rattle.blocks.proofs.Answers.{blocks-facts, read-1, read-none, write-room, write-none, right-records, stage-some}
+use Rattle.blocks.proofs.Answers.{blocks-facts, read-refuses, read-gives, read-1, read-none, write-refuses, write-gives, write-room, write-none, right-records, stage-some}
 use Rattle.block_laws.proofs.Pieces.{records-front, records-some}
 use Rattle.block_laws.proofs.ManyBlocks.{read-write, read-accepts, write-read, total}
 
@@ -48,7 +48,7 @@ wrote records n room k e =
       low = leb-true _ _ (and-left a b ab);
       high = leb-true _ _ (and-right a b ab);
       count = t .1;
-      left = ap (λ (r : Option ℕ). roomAfter r (fileOf records n) room) (t .0);
+      left = ap (λ (x : FileResult). x .room) (write-gives records n room (t .0));
     }
 
 record Read (file room : List ℕ) (n : ℕ) : Type 0 where
@@ -71,7 +71,7 @@ read file room n e =
       whole = f .1 .0;
       good = omega (arith, x, y);
       count = t .1;
-      left = ap (λ (r : Option ℕ). roomAfter r (fileRecords file) room) (t .0);
+      left = ap (λ (x : FileResult). x .room) (read-gives file room (t .0));
     }
 
 -- a file that reading accepts: its record bytes are whole records, at most 3,968, and the room begins with them
@@ -82,32 +82,10 @@ read-whole file room n e =
     let b = blocks-facts file (r .whole) in
     let a = read-accepts (wholeBlocks file) 0 0 file (b .0) (r .good) in (omega (arith, a .0, r .count), omega (arith, a .0, a .1, b .2, r .count), r .left)
 
--- WHAT A REFUSAL, OR NONE, GIVES
-read-refuses : (file room : List ℕ) {k : ℕ} → readRefusal file room ≡ some k → readFile file room ≡ record { answer = refused k; room = room }
-unfolding readFile
-read-refuses file room e =
-    ap (λ (r : Option ℕ). record { answer = answerOf r (length (fileRecords file) / 16); room = roomAfter r (fileRecords file) room }) e
-
-read-gives : (file room : List ℕ) {n : ℕ} {bytes : List ℕ} → readRefusal file room ≡ none → length (fileRecords file) / 16 ≡ n → fileRecords file ≡ bytes
-    → readFile file room ≡ record { answer = done n; room = over bytes room }
-unfolding readFile
-read-gives file room e p q =
-    ap (λ (r : Option ℕ). record { answer = answerOf r (length (fileRecords file) / 16); room = roomAfter r (fileRecords file) room }) e
-    ∙ ap (λ (m : ℕ). record { answer = done m; room = over (fileRecords file) room }) p
-    ∙ rw q
-
-write-refuses : (records : List ℕ) (n : ℕ) (room : List ℕ) {k : ℕ} → writeRefusal records n room ≡ some k → writeFile records n room ≡ record { answer = refused k; room = room }
-unfolding writeFile
-write-refuses records n room e =
-    ap (λ (r : Option ℕ). record { answer = answerOf r (blocksFor n); room = roomAfter r (fileOf records n) room }) e
-
-write-gives : (records : List ℕ) (n : ℕ) (room : List ℕ) {k : ℕ} {bytes : List ℕ} → writeRefusal records n room ≡ none → blocksFor n ≡ k → fileOf records n ≡ bytes
-    → writeFile records n room ≡ record { answer = done k; room = over bytes room }
-unfolding writeFile
-write-gives records n room e p q =
-    ap (λ (r : Option ℕ). record { answer = answerOf r (blocksFor n); room = roomAfter r (fileOf records n) room }) e
-    ∙ ap (λ (m : ℕ). record { answer = done m; room = over (fileOf records n) room }) p
-    ∙ rw q
+-- a result under other names of its count and bytes
+same-result : {m n : ℕ} {xs ys : List ℕ} (room : List ℕ) → m ≡ n → xs ≡ ys
+    → _≡_ {A = FileResult} (record { answer = done m; room = over xs room }) (record { answer = done n; room = over ys room })
+same-result room p q = rw (p, q)
 
 -- LENGTHS
 length-blocks : (k number : ℕ) (r : List ℕ) → length (blocksOf k number r) ≡ 512 * k
@@ -158,7 +136,7 @@ write-then-read records n room room′ k e =
     ap (λ (t : List ℕ). readFile t room′) front
     ∙ bool (ltb (length room′) (496 * k))
     (λ b. let h : length room′ < 496 * k = ltb-true _ _ b in rw b (read-refuses f room′ (read-1 f room′ (omega arith))))
-    (λ b. let h : 496 * k ≤ length room′ = ltb-false _ _ b in rw b (read-gives f room′ (read-none f room′ (omega arith) whole good) cnt rec))
+    (λ b. let h : 496 * k ≤ length room′ = ltb-false _ _ b in rw b (read-gives f room′ (read-none f room′ (omega arith) whole good) ∙ same-result room′ cnt rec))
 
 -- READ, THEN WRITTEN. Where reading accepts a file and answers n records, these, with anything behind them, written into any room, give the same file, all its bytes;
 -- a room shorter than the file is refused with 1, and left as it is. `Below 256 file`: the file is a list of bytes, as what stands behind any `&[u8]` is
@@ -200,7 +178,7 @@ read-then-write file room n rest room′ bytes e =
     let right : recordsWrong given n ≡ false = right-records given n low (omega arith) in
     bool (ltb (length room′) (length file))
     (λ b. let h : length room′ < length file = ltb-true _ _ b in rw b (write-refuses given n room′ (write-room given n room′ has (omega arith))))
-    (λ b. let h : length file ≤ length room′ = ltb-false _ _ b in rw b (write-gives given n room′ (write-none given n room′ has (omega arith) (omega arith) right) bf same))
+    (λ b. let h : length file ≤ length room′ = ltb-false _ _ b in rw b (write-gives given n room′ (write-none given n room′ has (omega arith) (omega arith) right) ∙ same-result room′ bf same))
 
 -- the same straight from the room that reading left
 pub read-then-write-room : (file room : List ℕ) (n : ℕ) (room′ : List ℕ) → Below 256 file → readFile file room .answer ≡ done n

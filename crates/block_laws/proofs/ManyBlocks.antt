@@ -8,7 +8,7 @@ use borrow.Author.Tests.{eqb-true, leb-true, leb-false, eq-eqb}
 use lib.Dec.{eqb, leb, eqb·suc-zero}
 use lib.ListN.{length, take, drop, length-append, length-drop, length-take, take-append-drop, drop-of-length-le}
 use lib.Seq.{length-take-le, take-at, drop-at, take-all}
-use Rattle.intervals.specs.Lists.{Below}
+use Rattle.lists.specs.Lists.{Below}
 use Rattle.blocks.specs.Block.{countIn, afterRecords, afterBlock, recordsIn, blockOf}
 use Rattle.blocks.specs.File.{afterBlocks, recordsOf, blocksOf}
 use Rattle.blocks.proofs.Stages.{Good, first-good}

@@ -8,9 +8,9 @@ use borrow.Author.Tests.{eq-eqb, le-leb, lt-leb}
 use lib.Dec.{eqb}
 use lib.ListN.{length, take, drop, replicate, length-drop, length-take, take-append-drop}
 use lib.Seq.{take-take, drop-drop, length-take-le, take-at, drop-at}
-use Rattle.intervals.specs.Lists.{every, Below}
-use Rattle.blocks.specs.Fletcher.{fletcher}
-use Rattle.blocks.specs.Bytes.{number4, bytes2, bytes4, zeroFrom}
+use Rattle.lists.specs.Lists.{every, Below}
+use Rattle.octets.specs.Fletcher.{fletcher}
+use Rattle.octets.specs.Bytes.{number4, bytes2, bytes4, zeroFrom}
 use Rattle.blocks.specs.Block.{afterRecords, countIn, checkIn, countRight, headRight, afterBlock, recordsIn, blockBody, blockOf}
 use Rattle.blocks.proofs.Stages.{Head, Good}
 use Rattle.blocks.proofs.Making.{length-body}

@@ -1,20 +1,21 @@
 -- What the round trips rest on: runs of zeros, stages over records, numbers in bytes, the size of the check. Assumes nothing.
 use mathlib.Core.Path.{_≡_, refl, sym, ap, _∙_}
-use mathlib.Core.Bool.{Bool, true, false, cond, _&&_}
+use mathlib.Core.Bool.{Bool, true, false, cond, _&&_, and-false}
 use mathlib.Core.List.{List, [], _∷_, _++_}
 use Prim.Native.Nat.{ℕ, zero, suc, _+_, _*_, _/_, _%_, _^_, _<_, _≤_}
 use native.Mathlib.Nat.{zero-add, suc-add, add-mul-mod-self-left, mod-eq-of-lt}
 use native.Mathlib.Omega.{arith}
-use borrow.Author.Tests.{eqb-true, ne-eqb}
+use borrow.Author.Tests.{eqb-true, lt-leb}
 use lib.Dec.{eqb, leb}
 use lib.ListN.{length, take, drop, replicate, length-drop, take-append-drop}
 use lib.Seq.{take-append-le, drop-append-le, getD-drop, length-take-le}
-use Rattle.intervals.specs.Lists.{every, Below}
-use Rattle.intervals.proofs.Bools.{and-left, and-right}
-use Rattle.blocks.specs.Fletcher.{words, sums, fletcher}
-use Rattle.blocks.specs.Bytes.{number4, bytes2, bytes4}
-use Rattle.blocks.specs.Record.{kindOf, recordRight}
-use Rattle.blocks.specs.Block.{inOrder, afterRecord, afterRecords}
+use Rattle.lists.specs.Lists.{every, Below}
+use Rattle.lists.proofs.Bools.{and-left, and-right}
+use Rattle.octets.specs.Fletcher.{words, sums, fletcher}
+use Rattle.octets.specs.Bytes.{number4, bytes2, bytes4}
+use Rattle.blocks.specs.Record.{kindOf, between, Place, rowOf, recordRight, inOrder}
+use Rattle.blocks.specs.Block.{afterRecord, afterRecords}
+use Rattle.blocks.proofs.Rows.{by-place}
 
 -- ZEROS. A run of zero bytes is so many zeros, and the other way round
 pub zeros-are : (s : List ℕ) → every (eqb 0) s ≡ true → s ≡ replicate (length s) 0
@@ -60,17 +61,15 @@ records-append (suc n) m stage c t h =
     ∙ records-append n m (afterRecord stage (take 16 c)) (drop 16 c) t less
 
 -- no record is in order after a refusal
+pub past-most : (least most stage : ℕ) → most < stage → between least most stage ≡ false
+past-most least most stage h = rw (lt-leb stage most h) (and-false (leb least stage))
+
 record-stuck : (stage : ℕ) (r : List ℕ) → 3 ≤ stage → afterRecord stage r ≡ 4
-unfolding afterRecord inOrder
+unfolding inOrder afterRecord
 record-stuck stage r h =
-    let a : eqb stage 0 ≡ false = ne-eqb stage 0 (λ e. omega arith) in
-    let b : eqb stage 1 ≡ false = ne-eqb stage 1 (λ e. omega arith) in
-    let d : eqb stage 2 ≡ false = ne-eqb stage 2 (λ e. omega arith) in
-    rw (a, b, d) (and-off (recordRight r))
-  where
-    and-off : (t : Bool) → _≡_ {A = ℕ} (cond (t && false) (cond (leb (kindOf r) 2) 1 2) 4) 4
-    and-off true = refl
-    and-off false = refl
+    let none : rowOf r .place .follows stage r ≡ false =
+    by-place (λ (p : Place). p .follows stage r ≡ false) (past-most 0 0 stage (omega arith)) (past-most 1 1 stage (omega arith)) (past-most 1 2 stage (omega arith)) (kindOf r) in
+    ap (λ (b : Bool). cond (recordRight r && b) (rowOf r .place .leads stage r) 4) none ∙ ap (λ (b : Bool). cond b (rowOf r .place .leads stage r) 4) (and-false (recordRight r))
 
 pub records-stuck : (n stage : ℕ) (s : List ℕ) → 3 ≤ stage → 3 ≤ afterRecords stage n s
 unfolding afterRecords
@@ -81,12 +80,11 @@ records-stuck (suc n) stage s h = records-stuck n (afterRecord stage (take 16 s)
 pub records-some : (n stage : ℕ) (r : List ℕ) → 1 ≤ n → 1 ≤ afterRecords stage n r
 unfolding afterRecords afterRecord
 records-some zero stage r h = absurd (omega arith)
-records-some (suc zero) stage r h = past (recordRight (take 16 r) && inOrder stage (kindOf (take 16 r))) (leb (kindOf (take 16 r)) 2)
+records-some (suc zero) stage r h = past (recordRight (take 16 r) && inOrder stage (take 16 r))
   where
-    past : (a b : Bool) → 1 ≤ cond a (cond b 1 2) 4
-    past true true = omega arith
-    past true false = omega arith
-    past false b = omega arith
+    past : (a : Bool) → 1 ≤ cond a (rowOf (take 16 r) .place .leads stage (take 16 r)) 4
+    past true = by-place (λ (p : Place). 1 ≤ p .leads stage (take 16 r)) (omega arith) (omega arith) (omega arith) (kindOf (take 16 r))
+    past false = omega arith
 records-some (suc (suc n)) stage r h = records-some (suc n) (afterRecord stage (take 16 r)) (drop 16 r) (omega arith)
 
 -- NUMBERS IN BYTES. Bytes are those of the number that they hold

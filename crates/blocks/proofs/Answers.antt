@@ -8,12 +8,12 @@ use native.Mathlib.Omega.{arith}
 use borrow.Author.Tests.{lt-ltb, le-ltb, le-leb, lt-leb, eq-eqb, ne-eqb, eqb-true, eqb-false, leb-true, not-false}
 use lib.Dec.{eqb, leb, ltb}
 use lib.ListN.{length}
-use Rattle.intervals.specs.Lists.{over}
-use Rattle.intervals.specs.Answer.{done, refused, refusal, answerOf}
-use Rattle.intervals.proofs.Bools.{bool, and-left, and-right, or-neither}
-use Rattle.intervals.proofs.Refusals.{refused-here, refused-later}
+use Rattle.lists.specs.Lists.{over}
+use Rattle.lists.specs.Answer.{Answer, done, refused, refusal}
+use Rattle.lists.proofs.Bools.{bool, and-left, and-right, or-neither}
+use Rattle.lists.proofs.Refusals.{refused-here, refused-later}
 use Rattle.blocks.specs.Block.{afterRecords}
-use Rattle.blocks.specs.File.{wholeBlocks, fileStage, fileRecords, notBlocks, readRefusal, roomAfter, readFile, blocksFor, fileOf, recordsWrong, writeRefusal, writeFile}
+use Rattle.blocks.specs.File.{wholeBlocks, fileStage, fileRecords, notBlocks, readRefusal, FileResult, leaving, readFile, blocksFor, fileOf, recordsWrong, writeRefusal, writeFile}
 use Rattle.blocks.proofs.Stages.{blocks-most}
 
 -- no check is left
@@ -33,17 +33,19 @@ blocks-facts file h =
     let z : length file % 512 ≡ 0 = eqb-true _ _ (and-left p q pq) in
     (omega arith, leb-true _ _ (and-right p q pq), leb-true _ _ (and-right (p && q) r all))
 
+-- what is left of an answer and a room
+pub left : {result : FileResult} {answer : Answer ℕ} {room : List ℕ} → result ≡ record { answer = answer; room = room } → (answer ≡ result .answer) × (room ≡ result .room)
+left e = (ap (λ (x : FileResult). x .answer) (sym e), ap (λ (x : FileResult). x .room) (sym e))
+
 -- READING
 module _ (file room : List ℕ) where
-  pub read-refused : {k : ℕ} → readRefusal file room ≡ some k → (refused k ≡ readFile file room .answer) × (room ≡ readFile file room .room)
+  pub read-refuses : {k : ℕ} → readRefusal file room ≡ some k → readFile file room ≡ record { answer = refused k; room = room }
   unfolding readFile
-  read-refused e = (ap (λ (r : Option ℕ). answerOf r (length (fileRecords file) / 16)) (sym e), ap (λ (r : Option ℕ). roomAfter r (fileRecords file) room) (sym e))
+  read-refuses e = ap (λ (why : Option ℕ). leaving why (length (fileRecords file) / 16) (fileRecords file) room) e
 
-  pub read-done : {n : ℕ} {room′ : List ℕ} → readRefusal file room ≡ none → n ≡ length (fileRecords file) / 16 → room′ ≡ over (fileRecords file) room
-      → (done n ≡ readFile file room .answer) × (room′ ≡ readFile file room .room)
+  pub read-gives : readRefusal file room ≡ none → readFile file room ≡ record { answer = done (length (fileRecords file) / 16); room = over (fileRecords file) room }
   unfolding readFile
-  read-done e p q =
-      (ap done p ∙ ap (λ (r : Option ℕ). answerOf r (length (fileRecords file) / 16)) (sym e), q ∙ ap (λ (r : Option ℕ). roomAfter r (fileRecords file) room) (sym e))
+  read-gives e = ap (λ (why : Option ℕ). leaving why (length (fileRecords file) / 16) (fileRecords file) room) e
 
   pub read-1 : length room < 496 * wholeBlocks file → readRefusal file room ≡ some 1
   read-1 h = refused-here _ _ (lt-ltb _ _ h)
@@ -71,50 +73,48 @@ module _ (file room : List ℕ) where
           ∙ none-left
 
 -- WRITING
-module _ (records : List ℕ) (n : ℕ) (room : List ℕ) where
-  pub write-refused : {k : ℕ} → writeRefusal records n room ≡ some k → (refused k ≡ writeFile records n room .answer) × (room ≡ writeFile records n room .room)
+module _ (records : List ℕ) (count : ℕ) (room : List ℕ) where
+  pub write-refuses : {k : ℕ} → writeRefusal records count room ≡ some k → writeFile records count room ≡ record { answer = refused k; room = room }
   unfolding writeFile
-  write-refused e = (ap (λ (r : Option ℕ). answerOf r (blocksFor n)) (sym e), ap (λ (r : Option ℕ). roomAfter r (fileOf records n) room) (sym e))
+  write-refuses e = ap (λ (why : Option ℕ). leaving why (blocksFor count) (fileOf records count) room) e
 
-  pub write-done : {room′ : List ℕ} → writeRefusal records n room ≡ none → room′ ≡ over (fileOf records n) room
-      → (done (blocksFor n) ≡ writeFile records n room .answer) × (room′ ≡ writeFile records n room .room)
+  pub write-gives : writeRefusal records count room ≡ none → writeFile records count room ≡ record { answer = done (blocksFor count); room = over (fileOf records count) room }
   unfolding writeFile
-  write-done e q =
-      (ap (λ (r : Option ℕ). answerOf r (blocksFor n)) (sym e), q ∙ ap (λ (r : Option ℕ). roomAfter r (fileOf records n) room) (sym e))
+  write-gives e = ap (λ (why : Option ℕ). leaving why (blocksFor count) (fileOf records count) room) e
 
-  pub write-short : length records < 16 * n → writeRefusal records n room ≡ some 1
-  write-short h = refused-here _ _ (ap (λ (b : Bool). b || ltb (length room) (512 * blocksFor n)) (lt-ltb _ _ h))
+  pub write-short : length records < 16 * count → writeRefusal records count room ≡ some 1
+  write-short h = refused-here _ _ (ap (λ (b : Bool). b || ltb (length room) (512 * blocksFor count)) (lt-ltb _ _ h))
 
-  module _ (has : 16 * n ≤ length records) where
-    pub write-room : length room < 512 * blocksFor n → writeRefusal records n room ≡ some 1
-    write-room h = refused-here _ _ (ap (λ (b : Bool). b || ltb (length room) (512 * blocksFor n)) (le-ltb _ _ has) ∙ lt-ltb _ _ h)
+  module _ (has : 16 * count ≤ length records) where
+    pub write-room : length room < 512 * blocksFor count → writeRefusal records count room ≡ some 1
+    write-room h = refused-here _ _ (ap (λ (b : Bool). b || ltb (length room) (512 * blocksFor count)) (le-ltb _ _ has) ∙ lt-ltb _ _ h)
 
-    module _ (long : 512 * blocksFor n ≤ length room) where
-      fits : (ltb (length records) (16 * n) || ltb (length room) (512 * blocksFor n)) ≡ false
+    module _ (long : 512 * blocksFor count ≤ length room) where
+      fits : (ltb (length records) (16 * count) || ltb (length room) (512 * blocksFor count)) ≡ false
       fits = or-neither _ _ (le-ltb _ _ has) (le-ltb _ _ long)
 
-      pub write-many : 3968 < n → writeRefusal records n room ≡ some 2
+      pub write-many : 3968 < count → writeRefusal records count room ≡ some 2
       write-many h = refused-later _ _ fits ∙ refused-here _ _ (lt-ltb _ _ h)
 
-      module _ (few : n ≤ 3968) where
-        pub write-wrong : recordsWrong records n ≡ true → writeRefusal records n room ≡ some 4
+      module _ (few : count ≤ 3968) where
+        pub write-wrong : recordsWrong records count ≡ true → writeRefusal records count room ≡ some 4
         write-wrong h = refused-later _ _ fits ∙ refused-later _ _ (le-ltb _ _ few) ∙ refused-here _ _ h
 
-        pub write-none : recordsWrong records n ≡ false → writeRefusal records n room ≡ none
+        pub write-none : recordsWrong records count ≡ false → writeRefusal records count room ≡ none
         write-none h = refused-later _ _ fits ∙ refused-later _ _ (le-ltb _ _ few) ∙ refused-later _ _ h ∙ none-left
 
 -- records whose stage is 0 are wrong, and those whose stage is above 2; those between are not
-pub no-records : (records : List ℕ) (n : ℕ) → afterRecords 0 n records < 1 → recordsWrong records n ≡ true
-no-records records n h = simp (lt-leb _ _ h)
+pub no-records : (records : List ℕ) (count : ℕ) → afterRecords 0 count records < 1 → recordsWrong records count ≡ true
+no-records records count h = simp (lt-leb _ _ h)
 
-pub wrong-records : (records : List ℕ) (n : ℕ) → 1 ≤ afterRecords 0 n records → 2 < afterRecords 0 n records → recordsWrong records n ≡ true
-wrong-records records n h g = simp (le-leb _ _ h, lt-leb _ _ g)
+pub wrong-records : (records : List ℕ) (count : ℕ) → 1 ≤ afterRecords 0 count records → 2 < afterRecords 0 count records → recordsWrong records count ≡ true
+wrong-records records count h g = simp (le-leb _ _ h, lt-leb _ _ g)
 
-pub right-records : (records : List ℕ) (n : ℕ) → 1 ≤ afterRecords 0 n records → afterRecords 0 n records ≤ 2 → recordsWrong records n ≡ false
-right-records records n h g = simp (le-leb _ _ h, le-leb _ _ g)
+pub right-records : (records : List ℕ) (count : ℕ) → 1 ≤ afterRecords 0 count records → afterRecords 0 count records ≤ 2 → recordsWrong records count ≡ false
+right-records records count h g = simp (le-leb _ _ h, le-leb _ _ g)
 
 -- a stage past the first comes of a record
-pub stage-some : (n : ℕ) (records : List ℕ) → 1 ≤ afterRecords 0 n records → 1 ≤ n
+pub stage-some : (count : ℕ) (records : List ℕ) → 1 ≤ afterRecords 0 count records → 1 ≤ count
 unfolding afterRecords
 stage-some zero records h = h
-stage-some (suc n) records h = omega arith
+stage-some (suc count) records h = omega arith

@@ -5,11 +5,11 @@ use Prim.Native.Nat.{ℕ, suc, _+_, _*_, _-_, _<_, _≤_}
 use native.Mathlib.Omega.{arith}
 use lib.ListN.{length, take, drop, length-append, length-drop}
 use lib.Seq.{drop-drop, length-take-le}
-use Rattle.intervals.specs.Lists.{over}
+use Rattle.lists.specs.Lists.{over}
 use Rattle.blocks.specs.Block.{countIn, recordsIn}
 use Rattle.blocks.specs.File.{recordsOf}
-use Rattle.blocks.specs.Inner.{overAt}
-use Rattle.blocks.proofs.Writes.{over-over, over-none, over-first}
+use Rattle.octets.specs.Writes.{overAt}
+use Rattle.octets.proofs.Writes.{over-over, over-none, over-first}
 
 -- the records of one block, as the code finds them
 pub in-block : (b : List ℕ) {n : ℕ} → n ≡ countIn b → take (8 + 16 * n - 8) (drop 8 b) ≡ recordsIn b

@@ -1,7 +1,5 @@
 -- What the proofs of several functions use; the theorems of the crate block_laws cite some of it.
-pub mod Numbers
-mod Words
-pub mod Writes
+pub mod Rows
 pub mod Stages
 mod Copies
 pub mod Making

@@ -1,21 +1,21 @@
 -- A block, written from its front to its back, and the blocks of records, one by one. Assumes nothing.
 use mathlib.Core.Path.{_≡_, sym, ap, _∙_}
 use mathlib.Core.List.{List, [], _∷_, _++_}
-use Prim.Native.Nat.{ℕ, suc, _+_, _*_, _-_, _/_, _<_, _≤_, min}
+use Prim.Native.Nat.{ℕ, suc, _+_, _*_, _-_, _/_, _%_, _<_, _≤_, min}
 use native.Mathlib.Numerals.{add-one}
 use native.Mathlib.Omega.{arith}
 use borrow.Author.Tests.{leb-true, leb-false}
 use lib.Dec.{leb}
 use lib.ListN.{length, take, drop, replicate, length-append, length-replicate, length-drop, length-take}
 use lib.Seq.{drop-drop, take-all}
-use Rattle.intervals.specs.Lists.{over}
-use Rattle.intervals.proofs.Bools.{bool}
-use Rattle.blocks.specs.Fletcher.{fletcher}
-use Rattle.blocks.specs.Bytes.{bytes2, bytes4}
+use Rattle.lists.specs.Lists.{over}
+use Rattle.lists.proofs.Bools.{bool}
+use Rattle.octets.specs.Fletcher.{fletcher}
+use Rattle.octets.specs.Bytes.{bytes2, bytes4}
 use Rattle.blocks.specs.Block.{blockBody, blockOf}
 use Rattle.blocks.specs.File.{blocksOf}
-use Rattle.blocks.specs.Inner.{overAt}
-use Rattle.blocks.proofs.Writes.{over-over, over-none, over-first, over-front, over-all, length-over, part-back}
+use Rattle.octets.specs.Writes.{overAt, putAt}
+use Rattle.octets.proofs.Writes.{over-over, over-none, over-first, length-over, part-back, put-put, put-front, put-all}
 
 pub length-body : (number : ℕ) (records : List ℕ) → length records ≤ 496 → length (blockBody number records) ≡ 508
 unfolding blockBody
@@ -25,51 +25,68 @@ pub length-block : (number : ℕ) (records : List ℕ) → length records ≤ 49
 unfolding blockOf
 length-block number records h = simp (length-append, length-body number records h) (omega arith)
 
--- the six writes of a block
-module _ (b : List ℕ) (number : ℕ) (records : List ℕ) (len : length b ≡ 512) (few : length records ≤ 496) where
-  written-body : {d1 d2 d3 d4 d5 : List ℕ}
-      → d1 ≡ overAt 0 (bytes4 number) b
-      → d2 ≡ overAt 4 (bytes2 (length records / 16)) d1
-      → d3 ≡ overAt 6 (bytes2 0) d2
-      → d4 ≡ overAt 8 records d3
-      → d5 ≡ overAt (8 + length records) (replicate (508 - (8 + length records)) 0) d4
-      → d5 ≡ overAt 0 (blockBody number records) b
-  unfolding blockBody
-  written-body {d1} {d2} {d3} {d4} {d5} p1 p2 p3 p4 p5 =
-      let n : ℕ = length records / 16 in
-      let h2 : d2 ≡ overAt 0 (bytes4 number ++ bytes2 n) b = p2 ∙ ap (λ (t : List ℕ). overAt 4 (bytes2 n) t) p1 ∙ over-over b 0 (bytes4 number) (bytes2 n) (omega arith) in
-      let h3 : d3 ≡ overAt 0 (bytes4 number ++ bytes2 n ++ (0 ∷ 0 ∷ [])) b = p3 ∙ ap (λ (t : List ℕ). overAt 6 (0 ∷ 0 ∷ []) t) h2 ∙ over-over b 0 (bytes4 number ++ bytes2 n) (0 ∷ 0 ∷ []) (omega arith) in
-      let h4 : d4 ≡ overAt 0 (bytes4 number ++ bytes2 n ++ (0 ∷ 0 ∷ []) ++ records) b = p4 ∙ ap (λ (t : List ℕ). overAt 8 records t) h3 ∙ over-over b 0 (bytes4 number ++ bytes2 n ++ (0 ∷ 0 ∷ [])) records (omega arith) in
-      let w : 508 - (8 + length records) ≡ 500 - length records = omega arith in
-      let at : 8 + length records ≡ 0 + length (bytes4 number ++ bytes2 n ++ (0 ∷ 0 ∷ []) ++ records) = simp length-append (omega arith) in
-      p5
-      ∙ ap (λ (k : ℕ). overAt (8 + length records) (replicate k 0) d4) w
-      ∙ ap (λ (t : List ℕ). overAt (8 + length records) (replicate (500 - length records) 0) t) h4
-      ∙ ap (λ (k : ℕ). overAt k (replicate (500 - length records) 0) (overAt 0 (bytes4 number ++ bytes2 n ++ (0 ∷ 0 ∷ []) ++ records) b)) at
-      ∙ over-over b 0 (bytes4 number ++ bytes2 n ++ (0 ∷ 0 ∷ []) ++ records) (replicate (500 - length records) 0) (omega arith)
+-- the count of records and the two zeros behind it are one number of four bytes
+count-and-zeros : (n : ℕ) → n < 65536 → bytes4 n ≡ bytes2 n ++ (0 ∷ 0 ∷ [])
+count-and-zeros n h =
+    let second : n / 256 % 256 ≡ n / 256 = omega arith in
+    let third : n / 65536 % 256 ≡ 0 = omega arith in
+    let fourth : n / 16777216 ≡ 0 = omega arith in
+    rw (second, third, fourth)
 
-  pub written-block : {d1 d2 d3 d4 d5 d6 : List ℕ} {check : ℕ}
-      → d1 ≡ overAt 0 (bytes4 number) b
-      → d2 ≡ overAt 4 (bytes2 (length records / 16)) d1
-      → d3 ≡ overAt 6 (bytes2 0) d2
-      → d4 ≡ overAt 8 records d3
-      → d5 ≡ overAt (8 + length records) (replicate (508 - (8 + length records)) 0) d4
-      → check ≡ fletcher (take 508 d5)
-      → d6 ≡ overAt 508 (bytes4 check) d5
-      → d6 ≡ blockOf number records
+-- the five writes of a block
+module _ (b : List ℕ) (number : ℕ) (records : List ℕ) (len : length b ≡ 512) (few : length records ≤ 496) where
+  -- the count of records
+  n : ℕ
+  n = length records / 16
+
+  -- the eight bytes before them
+  head : List ℕ
+  head = bytes4 number ++ bytes2 n ++ (0 ∷ 0 ∷ [])
+
+  written-body : {d1 d2 d3 d4 : List ℕ}
+      → d1 ≡ putAt 0 (bytes4 number) b
+      → d2 ≡ putAt 4 (bytes4 (length records / 16)) d1
+      → d3 ≡ putAt 8 records d2
+      → d4 ≡ putAt (8 + length records) (replicate (508 - (8 + length records)) 0) d3
+      → d4 ≡ putAt 0 (blockBody number records) b
+  unfolding blockBody n head
+  written-body {d1} {d2} {d3} {d4} p1 p2 p3 p4 =
+      let zeros : List ℕ = replicate (500 - length records) 0 in
+      let w : 508 - (8 + length records) ≡ 500 - length records = omega arith in
+      let at : 8 + length records ≡ 0 + length (head ++ records) = simp length-append (omega arith) in
+      let all : 0 + length (head ++ records) + length zeros ≤ length b = simp (length-append, length-replicate) (omega arith) in
+      let h2 : d2 ≡ putAt 0 head b =
+      p2 ∙ ap (λ (t : List ℕ). putAt 4 (bytes4 n) t) p1
+      ∙ put-put b 0 (bytes4 number) (bytes4 n) (omega arith)
+      ∙ ap (λ (t : List ℕ). putAt 0 (bytes4 number ++ t) b) (count-and-zeros n (omega arith)) in
+      let h3 : d3 ≡ putAt 0 (head ++ records) b = p3 ∙ ap (λ (t : List ℕ). putAt 8 records t) h2 ∙ put-put b 0 head records (omega arith) in
+      p4
+      ∙ ap (λ (k : ℕ). putAt (8 + length records) (replicate k 0) d3) w
+      ∙ ap (λ (t : List ℕ). putAt (8 + length records) zeros t) h3
+      ∙ ap (λ (k : ℕ). putAt k zeros (putAt 0 (head ++ records) b)) at
+      ∙ put-put b 0 (head ++ records) zeros all
+
+  pub written-block : {d1 d2 d3 d4 d5 : List ℕ} {check : ℕ}
+      → d1 ≡ putAt 0 (bytes4 number) b
+      → d2 ≡ putAt 4 (bytes4 (length records / 16)) d1
+      → d3 ≡ putAt 8 records d2
+      → d4 ≡ putAt (8 + length records) (replicate (508 - (8 + length records)) 0) d3
+      → check ≡ fletcher (take 508 d4)
+      → d5 ≡ putAt 508 (bytes4 check) d4
+      → d5 ≡ blockOf number records
   unfolding blockOf
-  written-block {d5 = d5} {check = check} p1 p2 p3 p4 p5 pc p6 =
-      let l = length-body number records few in
-      let h5 : d5 ≡ overAt 0 (blockBody number records) b = written-body p1 p2 p3 p4 p5 in
-      let c : check ≡ fletcher (blockBody number records) = pc ∙ ap fletcher (ap (λ (t : List ℕ). take 508 t) h5 ∙ over-front b (blockBody number records) 508 l) in
-      let at : 508 ≡ 0 + length (blockBody number records) = omega (arith, l) in
-      let all : length (blockBody number records ++ bytes4 (fletcher (blockBody number records))) ≡ length b = simp (length-append, l) (omega arith) in
-      p6
-      ∙ ap (λ (k : ℕ). overAt 508 (bytes4 k) d5) c
-      ∙ ap (λ (t : List ℕ). overAt 508 (bytes4 (fletcher (blockBody number records))) t) h5
-      ∙ ap (λ (k : ℕ). overAt k (bytes4 (fletcher (blockBody number records))) (overAt 0 (blockBody number records) b)) at
-      ∙ over-over b 0 (blockBody number records) (bytes4 (fletcher (blockBody number records))) (omega (arith, l))
-      ∙ over-all b (blockBody number records ++ bytes4 (fletcher (blockBody number records))) all
+  written-block {d4 = d4} {check = check} p1 p2 p3 p4 pc p5 =
+      let body : List ℕ = blockBody number records in
+      let l : length body ≡ 508 = length-body number records few in
+      let h4 : d4 ≡ putAt 0 body b = written-body p1 p2 p3 p4 in
+      let c : check ≡ fletcher body = pc ∙ ap fletcher (ap (λ (t : List ℕ). take 508 t) h4 ∙ put-front b body 508 l (omega arith)) in
+      let at : 508 ≡ 0 + length body = omega arith in
+      p5
+      ∙ ap (λ (k : ℕ). putAt 508 (bytes4 k) d4) c
+      ∙ ap (λ (t : List ℕ). putAt 508 (bytes4 (fletcher body)) t) h4
+      ∙ ap (λ (k : ℕ). putAt k (bytes4 (fletcher body)) (putAt 0 body b)) at
+      ∙ put-put b 0 body (bytes4 (fletcher body)) (omega arith)
+      ∙ put-all b (body ++ bytes4 (fletcher body)) (simp length-append (omega arith))
 
 -- the code's part of the records is the next 31 of them, or what is left
 next-part : (r : List ℕ) (a : ℕ) {to : ℕ} → to ≡ min (a + 496) (length r) → a ≤ length r → take (to - a) (drop a r) ≡ take 496 (drop a r)

@@ -9,12 +9,13 @@ use borrow.Author.Tests.{leb-true, leb-false, eqb-true, le-leb}
 use lib.Dec.{eqb, leb}
 use lib.ListN.{length, take, drop, length-drop}
 use lib.Seq.{drop-drop, take-all}
-use Rattle.intervals.proofs.Bools.{bool, and-left, and-right}
-use Rattle.blocks.specs.Fletcher.{fletcher}
-use Rattle.blocks.specs.Bytes.{number2, zeroFrom}
-use Rattle.blocks.specs.Record.{kindOf, recordRight}
-use Rattle.blocks.specs.Block.{inOrder, afterRecord, afterRecords, numberIn, countIn, checkIn, countRight, headRight, afterBlock}
+use Rattle.lists.proofs.Bools.{bool, and-left, and-right}
+use Rattle.octets.specs.Bytes.{number2, zeroBetween}
+use Rattle.octets.specs.Fletcher.{fletcher}
+use Rattle.blocks.specs.Record.{kindOf, Place, rowOf, recordRight, inOrder}
+use Rattle.blocks.specs.Block.{afterRecord, afterRecords, numberIn, countIn, checkIn, countRight, headRight, afterBlock}
 use Rattle.blocks.specs.File.{afterBlocks}
+use Rattle.blocks.proofs.Rows.{by-place}
 
 -- the records of a block, one by one
 pub start-records : (s : List ℕ) (stage n : ℕ) → afterRecords stage (n - 0) s ≡ afterRecords stage n s
@@ -58,7 +59,7 @@ pub record Head (number : ℕ) (last : Bool) (b : List ℕ) : Type 0 where
   pub high : countIn b ≤ 31
   pub full : (last || eqb (countIn b) 31) ≡ true
   pub gap : number2 6 b ≡ 0
-  pub zeros : zeroFrom (8 + 16 * countIn b) (take 508 b) ≡ true
+  pub zeros : zeroBetween (8 + 16 * countIn b) 508 b ≡ true
 
 count-facts : (last : Bool) (n : ℕ) → countRight last n ≡ true → (1 ≤ n) × (n ≤ 31) × ((last || eqb n 31) ≡ true)
 unfolding countRight
@@ -72,7 +73,7 @@ head-facts number last b h =
     let p : Bool = eqb (numberIn b) number in
     let q : Bool = countRight last (countIn b) in
     let r : Bool = eqb (number2 6 b) 0 in
-    let t : Bool = zeroFrom (8 + 16 * countIn b) (take 508 b) in
+    let t : Bool = zeroBetween (8 + 16 * countIn b) 508 b in
     let pqr = and-left (p && q && r) t h in
     let pq = and-left (p && q) r pqr in
     let c = count-facts last (countIn b) (and-right p q pq) in
@@ -134,12 +135,11 @@ counts-part k s ok i h = let w : 512 * i + 512 - 512 * i ≡ 512 = omega arith i
 -- no stage is above 4
 record-most : (stage : ℕ) (r : List ℕ) → afterRecord stage r ≤ 4
 unfolding afterRecord
-record-most stage r = most (recordRight r && inOrder stage (kindOf r)) (leb (kindOf r) 2)
+record-most stage r = most (recordRight r && inOrder stage r)
   where
-    most : (a b : Bool) → cond a (cond b 1 2) 4 ≤ 4
-    most true true = omega arith
-    most true false = omega arith
-    most false b = omega arith
+    most : (a : Bool) → cond a (rowOf r .place .leads stage r) 4 ≤ 4
+    most true = by-place (λ (p : Place). p .leads stage r ≤ 4) (omega arith) (omega arith) (omega arith) (kindOf r)
+    most false = omega arith
 
 records-most : (stage n : ℕ) (s : List ℕ) → stage ≤ 4 → afterRecords stage n s ≤ 4
 unfolding afterRecords

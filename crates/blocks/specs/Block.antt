@@ -1,29 +1,24 @@
 -- A block of 512 bytes: what reading finds in it, and the block of given records. Assumes nothing.
--- Reading goes from record to record and from block to block with a stage: 0 no record yet, 1 the size record and edges, 2 steps;
--- 3 and 4 are the refusals, and stay: so the first faulty block decides between 3 and 4.
-use mathlib.Core.Bool.{Bool, true, false, cond, _&&_, _||_}
+-- Reading goes on from block to block with its stage. The refusals 3 and 4 stay: so the first faulty block decides between them.
+use mathlib.Core.Bool.{Bool, cond, _&&_, _||_}
 use mathlib.Core.List.{List, [], _∷_, _++_}
 use Prim.Native.Nat.{ℕ, zero, suc, _+_, _*_, _-_, _/_}
 use lib.ListN.{length, take, drop, replicate}
 use lib.Dec.{eqb, leb}
-use Rattle.blocks.specs.Fletcher.{fletcher}
-use Rattle.blocks.specs.Bytes.{number2, number4, bytes2, bytes4, zeroFrom}
-use Rattle.blocks.specs.Record.{kindOf, recordRight}
-
--- one size record comes first, then all edges, then steps
-unfoldable pub inOrder : ℕ → ℕ → Bool
-inOrder stage kind = eqb stage 0 && eqb kind 1 || eqb stage 1 && leb 2 kind || eqb stage 2 && leb 3 kind
+use Rattle.octets.specs.Bytes.{number2, number4, bytes2, bytes4, zeroBetween}
+use Rattle.octets.specs.Fletcher.{fletcher}
+use Rattle.blocks.specs.Record.{rowOf, recordRight, inOrder}
 
 -- the stage after one record
 unfoldable pub afterRecord : ℕ → List ℕ → ℕ
-afterRecord stage r = cond (recordRight r && inOrder stage (kindOf r)) (cond (leb (kindOf r) 2) 1 2) 4
+afterRecord stage r = cond (recordRight r && inOrder stage r) (rowOf r .place .leads stage r) 4
 
 -- the stage after n records of 16 bytes
 unfoldable pub afterRecords : ℕ → ℕ → List ℕ → ℕ
 afterRecords stage zero s = stage
 afterRecords stage (suc n) s = afterRecords (afterRecord stage (take 16 s)) n (drop 16 s)
 
--- bytes 0 to 3 hold the block's number, 4 and 5 its record count
+-- bytes 0 to 3 hold the block's number
 abbrev pub numberIn : List ℕ → ℕ
 numberIn block = number4 0 block
 
@@ -45,7 +40,7 @@ headRight number last block =
     eqb (numberIn block) number
     && countRight last (countIn block)
     && eqb (number2 6 block) 0
-    && zeroFrom (8 + 16 * countIn block) (take 508 block)
+    && zeroBetween (8 + 16 * countIn block) 508 block
 
 -- the stage after a block: 3 where the check differs, before 4 where anything else is wrong
 unfoldable pub afterBlock : ℕ → (last : Bool) → ℕ → List ℕ → ℕ

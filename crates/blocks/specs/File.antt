@@ -1,12 +1,11 @@
 -- A file of 1 to 128 blocks: what reading and writing answer, and what they leave in the room that they are lent. Assumes nothing.
-use mathlib.Core.Bool.{Bool, true, false, not, _&&_, _||_}
+use mathlib.Core.Bool.{Bool, not, _&&_, _||_}
 use mathlib.Core.List.{List, [], _∷_, _++_}
-use mathlib.Core.Option.{Option, none, some}
+use mathlib.Core.Option.{Option}
 use Prim.Native.Nat.{ℕ, zero, suc, _+_, _*_, _/_, _%_}
 use lib.ListN.{length, take, drop}
 use lib.Dec.{eqb, leb, ltb}
-use Rattle.intervals.specs.Lists.{over}
-use Rattle.intervals.specs.Answer.{Answer, done, refused, Check, _when_, refusal, answerOf}
+use Rattle.lists.specs.Answer.{Answer, done, refused, Check, _when_, refusal, answerOf, roomAfter}
 use Rattle.blocks.specs.Block.{afterRecords, afterBlock, recordsIn, blockOf}
 use Rattle.blocks.specs.declared.ReadAnswer.{ReadAnswer}
 use Rattle.blocks.specs.declared.ReadAnswer.the-variants.{Records, Refused as ReadRefused}
@@ -51,62 +50,48 @@ fileChecks file =
 abbrev pub readRefusal : List ℕ → List ℕ → Option ℕ
 readRefusal file room = refusal (1 when ltb (length room) (496 * wholeBlocks file) ∷ fileChecks file)
 
--- what is written goes from the room's first byte on; a refusal changes nothing
-abbrev pub roomAfter : Option ℕ → List ℕ → List ℕ → List ℕ
-roomAfter none bytes room = over bytes room
-roomAfter (some k) bytes room = room
-
--- what reading leaves: its answer, a count of records, and the room with their bytes
-pub record ReadResult : Type 0 where
+-- what reading or writing leaves: its answer, a count of records or of blocks, and the room with their bytes
+pub record FileResult : Type 0 where
   pub answer : Answer ℕ
   pub room : List ℕ
 
--- reading: the count of records, and their bytes from the room's first byte on
-unfoldable pub readFile : List ℕ → List ℕ → ReadResult
-readFile file room =
-    record {
-      answer = answerOf (readRefusal file room) (length (fileRecords file) / 16);
-      room = roomAfter (readRefusal file room) (fileRecords file) room;
-    }
+-- the count, and the bytes from the room's first byte on, unless refused
+abbrev pub leaving : Option ℕ → ℕ → List ℕ → List ℕ → FileResult
+leaving why count bytes room = record { answer = answerOf why count; room = roomAfter why bytes room }
+
+-- reading: the count of records, and their bytes
+unfoldable pub readFile : List ℕ → List ℕ → FileResult
+readFile file room = leaving (readRefusal file room) (length (fileRecords file) / 16) (fileRecords file) room
 
 -- WRITING. The k blocks of records, 31 to a block, numbered from `number`
 unfoldable pub blocksOf : ℕ → ℕ → List ℕ → List ℕ
 blocksOf zero number records = []
 blocksOf (suc k) number records = blockOf number (take 496 records) ++ blocksOf k (suc number) (drop 496 records)
 
--- the blocks that n records fill
+-- the blocks that so many records fill
 abbrev pub blocksFor : ℕ → ℕ
-blocksFor n = (n + 30) / 31
+blocksFor count = (count + 30) / 31
 
--- the file of n records
+-- the file of so many records
 abbrev pub fileOf : List ℕ → ℕ → List ℕ
-fileOf records n = blocksOf (blocksFor n) 0 (take (16 * n) records)
+fileOf records count = blocksOf (blocksFor count) 0 (take (16 * count) records)
 
 -- 4: no records, or records that reading would not give back
 abbrev pub recordsWrong : List ℕ → ℕ → Bool
-recordsWrong records n = not (leb 1 (afterRecords 0 n records) && leb (afterRecords 0 n records) 2)
+recordsWrong records count = not (leb 1 (afterRecords 0 count records) && leb (afterRecords 0 count records) 2)
 
 -- writing needs 16 bytes for each record and 512 for each block; over 3,968 records is refused with 2
 abbrev pub writeRefusal : List ℕ → ℕ → List ℕ → Option ℕ
-writeRefusal records n room =
+writeRefusal records count room =
     refusal
-    (1 when (ltb (length records) (16 * n) || ltb (length room) (512 * blocksFor n))
-    ∷ 2 when ltb 3968 n
-    ∷ 4 when recordsWrong records n
+    (1 when (ltb (length records) (16 * count) || ltb (length room) (512 * blocksFor count))
+    ∷ 2 when ltb 3968 count
+    ∷ 4 when recordsWrong records count
     ∷ [])
 
--- what writing leaves: its answer, a count of blocks, and the room with their bytes
-pub record WriteResult : Type 0 where
-  pub answer : Answer ℕ
-  pub room : List ℕ
-
--- writing: the count of blocks, and their bytes from the room's first byte on
-unfoldable pub writeFile : List ℕ → ℕ → List ℕ → WriteResult
-writeFile records n room =
-    record {
-      answer = answerOf (writeRefusal records n room) (blocksFor n);
-      room = roomAfter (writeRefusal records n room) (fileOf records n) room;
-    }
+-- writing: the count of blocks, and their bytes
+unfoldable pub writeFile : List ℕ → ℕ → List ℕ → FileResult
+writeFile records count room = leaving (writeRefusal records count room) (blocksFor count) (fileOf records count) room
 
 -- what each case of reading's answer is in the paper
 abbrev pub readMeaning : ReadAnswer → Answer ℕ

@@ -1,6 +1,3 @@
-pub mod Fletcher
-pub mod Bytes
 pub mod Record
 pub mod Block
 pub mod File
-pub mod Inner

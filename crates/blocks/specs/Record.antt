@@ -1,12 +1,12 @@
--- A record of 16 bytes: byte 0 is its kind, fields follow from byte 1, unused bytes are zero. Assumes nothing.
-use mathlib.Core.Bool.{Bool, _&&_, _||_}
-use mathlib.Core.List.{List}
+-- A record of 16 bytes: byte 0 is its kind, fields follow from byte 1, unused bytes are zero. Each kind is a row of the table `kinds`. Assumes nothing.
+use mathlib.Core.Bool.{Bool, false, cond, _&&_}
+use mathlib.Core.List.{List, [], _∷_}
 use Prim.Native.Nat.{ℕ, _+_}
 use lib.Dec.{eqb, leb}
 use lib.ListN.{take, drop}
-use Rattle.blocks.specs.Bytes.{byte, number2, number8, zeroFrom}
+use Rattle.octets.specs.Bytes.{byte, number2, number8, zeroBetween, zeroFrom}
 
--- byte 0 of a record is its kind
+-- FIELDS. Byte 0 of a record is its kind
 abbrev pub kindOf : List ℕ → ℕ
 kindOf r = byte 0 r
 
@@ -46,6 +46,10 @@ nodeIn r = byte 2 r
 abbrev pub valueIn : List ℕ → ℕ
 valueIn r = number8 4 r
 
+-- UNUSED BYTES. Those from a place on, but for a value in bytes 4 to 11, are zero
+abbrev pub zeroButValue : ℕ → List ℕ → Bool
+zeroButValue at r = zeroBetween at 4 r && zeroFrom 12 r
+
 -- an enter with a mode of 1 or 2 and a name count of 1 to 8; name places past the count are unused
 unfoldable pub enterRight : List ℕ → Bool
 enterRight r =
@@ -53,12 +57,71 @@ enterRight r =
     && leb 1 (nameCountIn r) && leb (nameCountIn r) 8
     && zeroFrom (4 + nameCountIn r) r
 
--- the kind is one of the six, and mode, name count and unused bytes are right
+-- ORDER. Reading goes from record to record with a stage: 0 no record yet, 1 the size record and edges, 2 steps; 3 and 4 are the refusals
+abbrev pub Reading : Type 0
+Reading = ℕ
+
+-- a place in the order: whether a record there may come at a stage, and the stage after it; both may look at the stage and at the record
+pub record Place : Type 0 where
+  pub follows : Reading → List ℕ → Bool
+  pub leads : Reading → List ℕ → Reading
+
+-- the stages from one to another
+abbrev pub between : ℕ → ℕ → Reading → Bool
+between least most stage = leb least stage && leb stage most
+
+-- one size record comes first
+abbrev pub atFirst : Place
+atFirst = record { follows = λ stage r. between 0 0 stage; leads = λ stage r. 1 }
+
+-- then all edges
+abbrev pub amongEdges : Place
+amongEdges = record { follows = λ stage r. between 1 1 stage; leads = λ stage r. 1 }
+
+-- then steps
+abbrev pub amongSteps : Place
+amongSteps = record { follows = λ stage r. between 1 2 stage; leads = λ stage r. 2 }
+
+-- KINDS. A kind: byte 0 of its records, their place in the order, and whether fields and unused bytes of one are right
+pub record Kind : Type 0 where
+  pub number : ℕ
+  pub place : Place
+  pub right : List ℕ → Bool
+
+-- a row of the table of kinds
+abbrev pub row : ℕ → Place → (List ℕ → Bool) → Kind
+row number place right = record { number = number; place = place; right = right }
+
+-- size, edge, enter, get, put, leave
+unfoldable pub kinds : List Kind
+kinds =
+    -- 1 size: bytes 1 and 2 are n
+    row 1 atFirst (zeroFrom 3)
+    -- 2 edge: byte 1 parent, byte 2 child
+    ∷ row 2 amongEdges (zeroFrom 3)
+    -- 3 enter: party, mode, name count, names from byte 4 on
+    ∷ row 3 amongSteps enterRight
+    -- 4 get: party, node
+    ∷ row 4 amongSteps (zeroFrom 3)
+    -- 5 put: party, node, value in bytes 4 to 11
+    ∷ row 5 amongSteps (zeroButValue 3)
+    -- 6 leave: party
+    ∷ row 6 amongSteps (zeroFrom 2)
+    ∷ []
+
+-- the row of a kind; no record of a kind without a row is right
+unfoldable pub rowIn : List Kind → ℕ → Kind
+rowIn [] kind = row kind amongSteps (λ r. false)
+rowIn (k ∷ ks) kind = cond (eqb kind (k .number)) k (rowIn ks kind)
+
+-- the row of a record's kind
+abbrev pub rowOf : List ℕ → Kind
+rowOf r = rowIn kinds (kindOf r)
+
+-- the kind has a row, and mode, name count and unused bytes are right
 unfoldable pub recordRight : List ℕ → Bool
-recordRight r =
-    eqb (kindOf r) 1 && zeroFrom 3 r
-    || eqb (kindOf r) 2 && zeroFrom 3 r
-    || eqb (kindOf r) 3 && enterRight r
-    || eqb (kindOf r) 4 && zeroFrom 3 r
-    || eqb (kindOf r) 5 && (eqb (byte 3 r) 0 && zeroFrom 12 r)
-    || eqb (kindOf r) 6 && zeroFrom 2 r
+recordRight r = rowOf r .right r
+
+-- the record may come at a stage
+unfoldable pub inOrder : Reading → List ℕ → Bool
+inOrder stage r = rowOf r .place .follows stage r

@@ -1,14 +1,28 @@
-// Block files: the check (Fletcher-32), reading and writing, refusals 1 to 4.
+// Block files: records, reading and writing, refusals 1 to 4.
 ghost use mathlib.Core.Path.{_≡_};
-ghost use Prim.Native.Nat.{_+_, _-_, _*_, _/_, _%_, _<_, _≤_, min};
-ghost use lib.ListN.{length, drop, replicate};
-ghost use Rattle.intervals.specs.Lists.{over};
-ghost use Rattle.blocks.specs.Fletcher.{words, sums, fletcher};
-ghost use Rattle.blocks.specs.Bytes.{byte, number2, number4, number8, bytes2, bytes4, zeroFrom};
-ghost use Rattle.blocks.specs.Record.{enterRight, recordRight};
-ghost use Rattle.blocks.specs.Block.{inOrder, afterRecord, afterRecords, countIn, countRight, headRight, afterBlock, recordsIn, blockOf};
+ghost use mathlib.Core.Bool.{cond};
+ghost use Prim.Native.Nat.{_+_, _*_, _<_, _≤_};
+ghost use lib.ListN.{length};
+ghost use Rattle.lists.specs.Lists.{over};
+ghost use Rattle.octets.specs.Writes.{overAt};
+ghost use Rattle.blocks.specs.Record.{zeroButValue, enterRight, between, recordRight};
+ghost use Rattle.blocks.specs.Block.{afterRecord, afterRecords, countIn, countRight, headRight, afterBlock, recordsIn, blockOf};
 ghost use Rattle.blocks.specs.File.{afterBlocks, recordsOf, notBlocks, readFile, readMeaning, blocksOf, writeFile, writeMeaning};
-ghost use Rattle.blocks.specs.Inner.{overAt};
+
+// Bytes of a record.
+pub const RECORD: usize = 16;
+
+// Bytes of a block.
+const BLOCK: usize = 512;
+
+// Records in a full block
+const MOST: u32 = 31;
+
+// and their bytes.
+const FULL: usize = 496;
+
+// Where a block's check stands.
+const CHECK: usize = 508;
 
 // What reading a file answers: the count of its records.
 pub enum ReadAnswer {
@@ -22,147 +36,12 @@ pub enum WriteAnswer {
     Refused(u8),
 }
 
-// The two sums of the check.
-struct Sums {
-    a: u64,
-    b: u64,
-}
-
-// A byte as a wider number.
-fn wide(x: u8) -> u32
-    ensures { λ r. ⌜ (r ≡ x) × (r < 256) ⌝ }
-{
-    x as u32
-}
-
-// The smaller of two.
-fn least(a: usize, b: usize) -> usize
-    ensures { λ r. ⌜ r ≡ min a b ⌝ }
-{
-    if a < b { a } else { b }
-}
-
-// NUMBERS IN BYTES. Byte `at`; past the end stands zero.
-pub fn byte(at: usize, s: &[u8]) -> u8
-    ensures { λ r. ⌜ r ≡ byte at (now (s .entry)) ⌝ }
-{
-    if at < s.len() {
-        return s[at];
-    }
-    0
-}
-
-// The number of two bytes from `at` on, low byte first.
-pub fn number2(at: usize, s: &[u8]) -> u32
-    ensures { λ r. ⌜ (r ≡ number2 at (now (s .entry))) × (r < 65536) ⌝ }
-{
-    if s.len() <= at {
-        return 0;
-    }
-    wide(byte(at, s)) + 256 * wide(byte(at + 1, s))
-}
-
-// The number of four bytes.
-fn number4(at: usize, s: &[u8]) -> u32
-    ensures { λ r. ⌜ r ≡ number4 at (now (s .entry)) ⌝ }
-{
-    if s.len() <= at {
-        return 0;
-    }
-    number2(at, s) + 65536 * number2(at + 2, s)
-}
-
-// The number of eight bytes.
-pub fn number8(at: usize, s: &[u8]) -> u64
-    ensures { λ r. ⌜ r ≡ number8 at (now (s .entry)) ⌝ }
-{
-    if s.len() <= at {
-        return 0;
-    }
-    number4(at, s) as u64 + 4294967296 * (number4(at + 4, s) as u64)
-}
-
-// THE CHECK. The sums after n words from byte `at` on: up to 4,096 words fit 64 bits, so that the remainders are taken once.
-fn add_words(bytes: &[u8], at: usize, n: usize, a: u64, b: u64) -> Sums
-    requires { ⌜ (at + 2 * n ≤ length (now bytes)) × (n ≤ 4096) × (a < 65535) × (b < 65535) ⌝ }
-    ensures { λ r. ⌜ (r .a < 65535) × (r .b < 65535) × (sums (r .a) (r .b) (words (drop (at + 2 * n) (now (bytes .entry)))) ≡ sums a b (words (drop at (now (bytes .entry))))) ⌝ }
-{
-    let mut low = a;
-    let mut high = b;
-    let mut i = at;
-    let mut left = n;
-    while 0 < left {
-        low += (wide(bytes[i]) + 256 * wide(bytes[i + 1])) as u64;
-        high += low;
-        i += 2;
-        left -= 1;
-    }
-    Sums {
-        a: low % 65535,
-        b: high % 65535,
-    }
-}
-
-// The check of the two sums.
-fn join(a: u64, b: u64) -> u32
-    requires { ⌜ (a < 65535) × (b < 65535) ⌝ }
-    ensures { λ r. ⌜ r ≡ a + 65536 * b ⌝ }
-{
-    (a + 65536 * b) as u32
-}
-
-// The check from the sums after all whole words: an odd last byte is followed by a zero.
-fn end_check(bytes: &[u8], a: u64, b: u64) -> u32
-    requires { ⌜ (a < 65535) × (b < 65535) ⌝ }
-    ensures { λ r. ⌜ r ≡ sums a b (words (drop (2 * (length (now (bytes .entry)) / 2)) (now (bytes .entry)))) ⌝ }
-{
-    let at = 2 * (bytes.len() / 2);
-    if at < bytes.len() {
-        let low = (a + wide(bytes[at]) as u64) % 65535;
-        return join(low, (b + low) % 65535);
-    }
-    join(a, b)
-}
-
-// Fletcher-32 of a string of bytes.
-#[no_mangle]
-pub extern "C" fn block_check(bytes: &[u8]) -> u32
-    ensures { λ r. ⌜ r ≡ fletcher (now (bytes .entry)) ⌝ }
-{
-    let total = bytes.len() / 2;
-    let mut a: u64 = 0;
-    let mut b: u64 = 0;
-    let mut i: usize = 0;
-    while i < total {
-        let n = least(4096, total - i);
-        let s = add_words(bytes, 2 * i, n, a, b);
-        a = s.a;
-        b = s.b;
-        i += n;
-    }
-    end_check(bytes, a, b)
-}
-
-// READING. Whether the bytes from k on are zero.
-fn zero_from(k: usize, s: &[u8]) -> bool
-    ensures { λ r. ⌜ r ≡ zeroFrom k (now (s .entry)) ⌝ }
-{
-    let mut i = k;
-    while i < s.len() {
-        if s[i] != 0 {
-            return false;
-        }
-        i += 1;
-    }
-    true
-}
-
-// Whether an enter has a mode, one to eight names, and zeros after them.
+// READING. Whether an enter has a mode, one to eight names, and zeros after them.
 fn enter_right(r: &[u8]) -> bool
     ensures { λ ok. ⌜ ok ≡ enterRight (now (r .entry)) ⌝ }
 {
-    let mode = byte(2, r);
-    let names = wide(byte(3, r)) as usize;
+    let mode = octets::byte(r, 2);
+    let names = octets::byte(r, 3) as usize;
     if mode < 1 {
         return false;
     }
@@ -175,46 +54,59 @@ fn enter_right(r: &[u8]) -> bool
     if names > 8 {
         return false;
     }
-    zero_from(4 + names, r)
+    octets::zero_from(r, 4 + names)
 }
 
-// Whether a record is right by itself.
+// Whether all bytes from `at` on, but for a value in bytes 4 to 11, are zero.
+fn zero_but_value(r: &[u8], at: usize) -> bool
+    ensures { λ ok. ⌜ ok ≡ zeroButValue at (now (r .entry)) ⌝ }
+{
+    if !octets::zero_between(r, at, 4) {
+        return false;
+    }
+    octets::zero_from(r, 12)
+}
+
+// Whether a record is right by itself, by its kind's row.
 fn record_right(r: &[u8]) -> bool
     ensures { λ ok. ⌜ ok ≡ recordRight (now (r .entry)) ⌝ }
 {
-    let kind = byte(0, r);
+    let kind = octets::byte(r, 0);
     match kind {
-        1 => zero_from(3, r),
-        2 => zero_from(3, r),
+        1 => octets::zero_from(r, 3),
+        2 => octets::zero_from(r, 3),
         3 => enter_right(r),
-        4 => zero_from(3, r),
-        5 => byte(3, r) == 0 && zero_from(12, r),
-        6 => zero_from(2, r),
+        4 => octets::zero_from(r, 3),
+        5 => zero_but_value(r, 3),
+        6 => octets::zero_from(r, 2),
         _ => false,
     }
 }
 
-// Whether a record of a kind may come at a stage.
-fn in_order(stage: u8, kind: u8) -> bool
-    ensures { λ ok. ⌜ ok ≡ inOrder stage kind ⌝ }
+// The stage after a record that may come at the stages from `least` to `most`; 4 where it comes at another.
+fn led(stage: u8, least: u8, most: u8, next: u8) -> u8
+    ensures { λ n. ⌜ n ≡ cond (between least most stage) next 4 ⌝ }
 {
-    match stage {
-        0 => kind == 1,
-        1 => 2 <= kind,
-        2 => 3 <= kind,
-        _ => false,
+    if stage < least {
+        4
+    } else if stage > most {
+        4
+    } else {
+        next
     }
 }
 
-// The stage after one record.
+// The stage after one record, by its kind's row.
 fn after_record(stage: u8, r: &[u8]) -> u8
     ensures { λ n. ⌜ n ≡ afterRecord stage (now (r .entry)) ⌝ }
 {
-    let kind = byte(0, r);
-    let right = record_right(r);
-    let ordered = in_order(stage, kind);
-    if right && ordered {
-        if kind <= 2 { 1 } else { 2 }
+    let kind = octets::byte(r, 0);
+    if record_right(r) {
+        match kind {
+            1 => led(stage, 0, 0, 1),
+            2 => led(stage, 1, 1, 1),
+            _ => led(stage, 1, 2, 2),
+        }
     } else {
         4
     }
@@ -228,8 +120,8 @@ fn after_records(stage: u8, n: usize, s: &[u8]) -> u8
     let mut reached = stage;
     let mut i: usize = 0;
     while i < n {
-        let at = 16 * i;
-        let end = at + 16;
+        let at = RECORD * i;
+        let end = at + RECORD;
         reached = after_record(reached, &s[at..end]);
         i += 1;
     }
@@ -243,31 +135,30 @@ fn count_right(last: bool, n: u32) -> bool
     if n < 1 {
         return false;
     }
-    if n > 31 {
+    if n > MOST {
         return false;
     }
     if last {
         return true;
     }
-    n == 31
+    n == MOST
 }
 
 // Whether a block's number, count and unused bytes are right.
 fn head_right(number: u32, last: bool, block: &[u8]) -> bool
-    requires { ⌜ length (now block) ≡ 512 ⌝ }
     ensures { λ ok. ⌜ ok ≡ headRight number last (now (block .entry)) ⌝ }
 {
-    let n = number2(4, block);
-    if number4(0, block) != number {
+    let n = octets::number2(block, 4);
+    if octets::number4(block, 0) != number {
         return false;
     }
     if !count_right(last, n) {
         return false;
     }
-    if number2(6, block) != 0 {
+    if octets::number2(block, 6) != 0 {
         return false;
     }
-    zero_from(8 + 16 * (n as usize), &block[..508])
+    octets::zero_between(block, 8 + RECORD * (n as usize), CHECK)
 }
 
 // The stage after a block of 512 bytes: 3 where the check differs, before 4 where anything else is wrong.
@@ -278,8 +169,8 @@ fn after_block(number: u32, last: bool, stage: u8, block: &[u8]) -> u8
     if 3 <= stage {
         return stage;
     }
-    let computed = block_check(&block[..508]);
-    let differs = number4(508, block) != computed;
+    let computed = octets::block_check(&block[..CHECK]);
+    let differs = octets::number4(block, CHECK) != computed;
     let right = head_right(number, last, block);
     if differs {
         return 3;
@@ -287,7 +178,7 @@ fn after_block(number: u32, last: bool, stage: u8, block: &[u8]) -> u8
     if !right {
         return 4;
     }
-    after_records(stage, number2(4, block) as usize, &block[8..])
+    after_records(stage, octets::number2(block, 4) as usize, &block[8..])
 }
 
 // The stage after k blocks.
@@ -298,8 +189,8 @@ fn after_blocks(k: usize, file: &[u8]) -> u8
     let mut stage: u8 = 0;
     let mut i: usize = 0;
     while i < k {
-        let at = 512 * i;
-        let end = at + 512;
+        let at = BLOCK * i;
+        let end = at + BLOCK;
         let left = k - (i + 1);
         stage = after_block(i as u32, left == 0, stage, &file[at..end]);
         i += 1;
@@ -307,26 +198,14 @@ fn after_blocks(k: usize, file: &[u8]) -> u8
     stage
 }
 
-// Writes bytes from a place of the room on.
-fn copy_at(at: usize, bytes: &[u8], room: &mut [u8])
-    requires { ⌜ at + length (now bytes) ≤ length (now room) ⌝ }
-    ensures { λ _. ⌜ now (room .exit) ≡ overAt at (now (bytes .entry)) (now (room .entry)) ⌝ }
-{
-    let mut i: usize = 0;
-    while i < bytes.len() {
-        room[at + i] = bytes[i];
-        i += 1;
-    }
-}
-
 // Writes the records of a block from a place of the room on, and answers how many bytes these are.
-fn copy_block(at: usize, block: &[u8], room: &mut [u8]) -> usize
+fn copy_block(block: &[u8], at: usize, room: &mut [u8]) -> usize
     requires { ⌜ (length (now block) ≡ 512) × (countIn (now block) ≤ 31) × (at + 496 ≤ length (now room)) ⌝ }
     ensures { λ r. ⌜ (r ≡ length (recordsIn (now (block .entry)))) × (r ≤ 496) × (now (room .exit) ≡ overAt at (recordsIn (now (block .entry))) (now (room .entry))) ⌝ }
 {
-    let n = 16 * (number2(4, block) as usize);
+    let n = RECORD * (octets::number2(block, 4) as usize);
     let end = 8 + n;
-    copy_at(at, &block[8..end], room);
+    octets::copy_at(&block[8..end], at, room);
     n
 }
 
@@ -338,9 +217,9 @@ fn copy_records(k: usize, file: &[u8], room: &mut [u8]) -> usize
     let mut to: usize = 0;
     let mut i: usize = 0;
     while i < k {
-        let at = 512 * i;
-        let end = at + 512;
-        to += copy_block(to, &file[at..end], room);
+        let at = BLOCK * i;
+        let end = at + BLOCK;
+        to += copy_block(&file[at..end], to, room);
         i += 1;
     }
     to
@@ -350,8 +229,8 @@ fn copy_records(k: usize, file: &[u8], room: &mut [u8]) -> usize
 fn not_blocks(file: &[u8]) -> bool
     ensures { λ r. ⌜ r ≡ notBlocks (now (file .entry)) ⌝ }
 {
-    let k = file.len() / 512;
-    if file.len() % 512 != 0 {
+    let k = file.len() / BLOCK;
+    if file.len() % BLOCK != 0 {
         return true;
     }
     if k < 1 {
@@ -364,8 +243,8 @@ fn not_blocks(file: &[u8]) -> bool
 pub fn read(file: &[u8], room: &mut [u8]) -> ReadAnswer
     ensures { λ r. ⌜ (readMeaning r ≡ (readFile (now (file .entry)) (now (room .entry))) .answer) × (now (room .exit) ≡ (readFile (now (file .entry)) (now (room .entry))) .room) ⌝ }
 {
-    let k = file.len() / 512;
-    if room.len() < 496 * k {
+    let k = file.len() / BLOCK;
+    if room.len() < FULL * k {
         return ReadAnswer::Refused(1);
     }
     if not_blocks(file) {
@@ -376,61 +255,21 @@ pub fn read(file: &[u8], room: &mut [u8]) -> ReadAnswer
         return ReadAnswer::Refused(reached);
     }
     let bytes = copy_records(k, file, room);
-    ReadAnswer::Records(bytes / 16)
+    ReadAnswer::Records(bytes / RECORD)
 }
 
-// WRITING. The lowest byte of a number.
-fn low_byte(x: u32) -> u8
-    ensures { λ r. ⌜ r ≡ x % 256 ⌝ }
-{
-    (x % 256) as u8
-}
-
-// Writes a number as two bytes.
-fn put2(at: usize, x: u32, room: &mut [u8])
-    requires { ⌜ (at + 2 ≤ length (now room)) × (x < 65536) ⌝ }
-    ensures { λ _. ⌜ now (room .exit) ≡ overAt at (bytes2 x) (now (room .entry)) ⌝ }
-{
-    room[at] = low_byte(x);
-    room[at + 1] = low_byte(x / 256);
-}
-
-// Writes a number as four bytes.
-fn put4(at: usize, x: u32, room: &mut [u8])
-    requires { ⌜ at + 4 ≤ length (now room) ⌝ }
-    ensures { λ _. ⌜ now (room .exit) ≡ overAt at (bytes4 x) (now (room .entry)) ⌝ }
-{
-    room[at] = low_byte(x);
-    room[at + 1] = low_byte(x / 256);
-    room[at + 2] = low_byte(x / 65536);
-    room[at + 3] = low_byte(x / 16777216);
-}
-
-// Writes zeros from a place up to another.
-fn put_zeros(from: usize, to: usize, room: &mut [u8])
-    requires { ⌜ (from ≤ to) × (to ≤ length (now room)) ⌝ }
-    ensures { λ _. ⌜ now (room .exit) ≡ overAt from (replicate (to - from) 0) (now (room .entry)) ⌝ }
-{
-    let mut i = from;
-    while i < to {
-        room[i] = 0;
-        i += 1;
-    }
-}
-
-// Writes the block of given records.
+// WRITING. Writes the block of given records; the count in bytes 4 and 5 and the zeros in 6 and 7 are one number.
 fn write_block(number: u32, records: &[u8], block: &mut [u8])
     requires { ⌜ (length (now block) ≡ 512) × (length (now records) ≤ 496) ⌝ }
     ensures { λ _. ⌜ now (block .exit) ≡ blockOf number (now (records .entry)) ⌝ }
 {
     let n = records.len();
-    put4(0, number, block);
-    put2(4, (n / 16) as u32, block);
-    put2(6, 0, block);
-    copy_at(8, records, block);
-    put_zeros(8 + n, 508, block);
-    let check = block_check(&block[..508]);
-    put4(508, check, block);
+    octets::put4(number, 0, block);
+    octets::put4((n / RECORD) as u32, 4, block);
+    octets::copy_at(records, 8, block);
+    octets::put_zeros(CHECK - (8 + n), 8 + n, block);
+    let check = octets::block_check(&block[..CHECK]);
+    octets::put4(check, CHECK, block);
 }
 
 // Writes the k blocks of records, 31 to a block.
@@ -440,10 +279,10 @@ fn write_blocks(k: usize, records: &[u8], room: &mut [u8])
 {
     let mut i: usize = 0;
     while i < k {
-        let at = 512 * i;
-        let end = at + 512;
-        let from = 496 * i;
-        let to = least(from + 496, records.len());
+        let at = BLOCK * i;
+        let end = at + BLOCK;
+        let from = FULL * i;
+        let to = octets::least(from + FULL, records.len());
         write_block(i as u32, &records[from..to], &mut room[at..end]);
         i += 1;
     }
@@ -453,11 +292,11 @@ fn write_blocks(k: usize, records: &[u8], room: &mut [u8])
 pub fn write(records: &[u8], count: usize, room: &mut [u8]) -> WriteAnswer
     ensures { λ r. ⌜ (writeMeaning r ≡ (writeFile (now (records .entry)) count (now (room .entry))) .answer) × (now (room .exit) ≡ (writeFile (now (records .entry)) count (now (room .entry))) .room) ⌝ }
 {
-    if records.len() / 16 < count {
+    if records.len() / RECORD < count {
         return WriteAnswer::Refused(1);
     }
     let k = (count + 30) / 31;
-    if room.len() < 512 * k {
+    if room.len() < BLOCK * k {
         return WriteAnswer::Refused(1);
     }
     if count > 3968 {
@@ -470,7 +309,7 @@ pub fn write(records: &[u8], count: usize, room: &mut [u8]) -> WriteAnswer
     if reached > 2 {
         return WriteAnswer::Refused(4);
     }
-    let end = 16 * count;
+    let end = RECORD * count;
     write_blocks(k, &records[..end], room);
     WriteAnswer::Blocks(k)
 }

@@ -1,32 +1,27 @@
 -- What each step hands back, by what its code has found out. Assumes nothing.
-use mathlib.Core.Path.{_≡_, refl, sym, ap, subst, _∙_}
-use mathlib.Core.List.{List, [], _∷_}
-use mathlib.Core.Bool.{Bool, true, false, not, _||_}
+use mathlib.Core.Path.{_≡_, refl, sym, ap, _∙_}
+use mathlib.Core.List.{List, []}
+use mathlib.Core.Bool.{Bool, true, false}
 use mathlib.Core.Option.{Option, none, some}
-use Prim.Native.Nat.{ℕ, _+_, _*_, _≤_, _<_}
-use native.Mathlib.Omega.{arith}
-use lib.Dec.{eqb, ltb}
+use Prim.Native.Nat.{ℕ, _≤_}
+use lib.Dec.{eqb}
 use lib.ListN.{length, getD, set, take}
-use borrow.Author.Tests.{ltb-true, ltb-false, not-false, ne-eqb}
-use Rattle.intervals.specs.Lists.{anyBelow, over}
-use Rattle.intervals.specs.Answer.{done, refused, Check, _when_, refusal}
-use Rattle.intervals.proofs.Bools.{and-left, or-left, or-right}
-use Rattle.intervals.proofs.Refusals.{refused-here, refused-later, NoneHolds, refusal-none}
-use Rattle.desk.specs.declared.Mode.{Mode}
-use Rattle.desk.specs.declared.Lock.{Lock}
+use Rattle.lists.specs.Lists.{over}
+use Rattle.lists.specs.Answer.{done, Check, refusal}
+use Rattle.locks.specs.declared.Mode.{Mode}
+use Rattle.locks.specs.declared.Lock.{Lock}
+use Rattle.locks.specs.Lent.{Hierarchy, coverIn, lockOn}
+use Rattle.parties.specs.declared.Swept.{Swept}
+use Rattle.parties.specs.Inner.{Sweeps}
+use Rattle.arrivals.proofs.Queues.{listed-take}
 use Rattle.desk.specs.declared.Desk.{Desk}
-use Rattle.desk.specs.declared.Swept.{Swept}
 use Rattle.desk.specs.declared.EnterAnswer.the-variants.{Granted, Waits, Refused as EnterRefused}
 use Rattle.desk.specs.declared.GetAnswer.the-variants.{Value, Waiting, Refused as GetRefused}
 use Rattle.desk.specs.declared.PutAnswer.the-variants.{Stored, Refused as PutRefused}
 use Rattle.desk.specs.declared.LeaveAnswer.the-variants.{Left, Refused as LeaveRefused}
-use Rattle.desk.specs.Desks.{Hierarchy, coverIn, stageAt, isOut, isWaiting, queuePlaces}
-use Rattle.desk.specs.Sound.{listsParties, listsOnce, listsWaiting, intervalsReal, coversRight, holdersApart, waitersHeldUp, soundDesk}
-use Rattle.desk.specs.Steps.{tablesShort, intervalWrong, stepChecks, countGrants, namesWrong, enterRefusal, lockOn, grantTo, queueLast, free, enterIf, enterUnless, enterStep, insideHold, valueChecks, getUnless, getStep, readsOnly, putUnless, putStep, Sweep, afterLeaving, leaveWith, leaveUnless, leaveRefusal, leaveStep}
-use Rattle.desk.specs.Answers.{Enters, Gets, Puts, Leaves, getCase, getMeaning}
-use Rattle.desk.specs.Inner.{refusalAfter, Judged, nodeChecks, NodeJudged, goneDesk, withGrants, othersOf, sweptDesk, Sweeps}
-use Rattle.desk.proofs.Queues.{places-take}
-use Rattle.desk.proofs.Judging.{lists-few}
+use Rattle.desk.specs.Steps.{putOwn, countGrants, enterRefusal, grantTo, queueLast, free, enterIf, enterUnless, enterStep, valueChecks, getUnless, getStep, putUnless, putStep, afterLeaving, leaveUnless, leaveRefusal, leaveStep}
+use Rattle.desk.specs.Answers.{Enters, Gets, Puts, Leaves}
+use Rattle.desk.specs.Inner.{leftBy}
 
 -- ENTER
 module _ (H : Hierarchy) (d : Desk) (party : ℕ) (mode : Mode) (names : List ℕ) (nameCount : ℕ) where
@@ -75,7 +70,7 @@ module _ (H : Hierarchy) (d : Desk) (party node : ℕ) (values : List ℕ) where
 
   module _ (value : ℕ) where
     abbrev own : List Check
-    own = 17 when readsOnly (stageAt d party) ∷ []
+    own = putOwn d party
 
     stored : (o : Option ℕ) → refusal (valueChecks H d party node values own) ≡ o → putStep H d party node value values ≡ putUnless o d node value values
     unfolding putStep
@@ -98,22 +93,17 @@ module _ (H : Hierarchy) (d : Desk) (party : ℕ) (list : List ℕ) where
   pub leave-refused : (k : ℕ) → leaveRefusal H d party list ≡ some k → Leaves (record { desk = d; answer = LeaveRefused k }) list (leaveStep H d party list)
   leave-refused k e = rw (left (some k) e) (refl, refl, refl)
 
-  pub leave-left : leaveRefusal H d party list ≡ none → (r : Swept) (list′ : List ℕ) (grants : ℕ) (next : Desk) → Sweeps (goneDesk d party) (othersOf d party) r list list′
-      → grants ≡ countGrants (d .grants) (r .granted) → next ≡ withGrants (r .desk) grants
-      → Leaves (record { desk = next; answer = Left (r .granted) }) list′ (leaveStep H d party list)
-  leave-left e r list′ grants next k eg en =
+  pub leave-left : leaveRefusal H d party list ≡ none → (r : Swept) (list′ : List ℕ) (next : Desk) → Sweeps (afterLeaving d party) r → length (afterLeaving d party .granted) ≤ 32
+      → list′ ≡ over (take (r .granted .count) (r .granted .places)) list → next ≡ leftBy d r
+      → Leaves (record { desk = next; answer = Left (r .granted .count) }) list′ (leaveStep H d party list)
+  leave-left e r list′ next k few el en =
       rw (left none e) (
-        en ∙ ap (λ (x : Desk). withGrants x grants) (k .desk) ∙ ap (withGrants (sweptDesk (afterLeaving d party) (d .grants))) (eg ∙ ap (countGrants (d .grants)) (k .granted)),
-        ap done (k .granted),
-        k .listed,
+        en ∙ (λ i. record {
+          entries = k .entries i;
+          queue = k .stay .0 i;
+          waiting = k .stay .1 i;
+          grants = countGrants (d .grants) (k .granted .1 i);
+        }),
+        ap done (k .granted .1),
+        el ∙ ap (λ (t : List ℕ). over t list) (listed-take (r .granted) (afterLeaving d party .granted) (k .granted) few),
       )
-
-  -- the pass over the other waiters, said of the places its code gave to it
-  pub swept-others : (gone : Desk) (places : List ℕ) (waiting : ℕ) (r : Swept) (list′ : List ℕ) → length (othersOf d party) ≤ 32
-      → gone ≡ goneDesk d party → places ≡ queuePlaces (othersOf d party) → waiting ≡ length (othersOf d party)
-      → Sweeps gone (take waiting places) r list list′ → Sweeps (goneDesk d party) (othersOf d party) r list list′
-  swept-others gone places waiting r list′ few eg ep ew k =
-      let same : take waiting places ≡ othersOf d party
-      = ap (λ (i : ℕ). take i places) ew ∙ ap (take (length (othersOf d party))) ep ∙ places-take (othersOf d party) few in
-      let here : Sweeps gone (othersOf d party) r list list′ = subst (λ (l : List ℕ). Sweeps gone l r list list′) same k in
-      subst (λ (x : Desk). Sweeps x (othersOf d party) r list list′) eg here

@@ -4,7 +4,7 @@ use mathlib.Core.List.{List}
 use mathlib.Core.Bool.{Bool, true, false}
 use Prim.Native.Nat.{ℕ}
 use lib.Dec.{eqb}
-use Rattle.intervals.specs.Answer.{Answer, done, refused}
+use Rattle.lists.specs.Answer.{Answer, done, refused}
 use Rattle.desk.specs.declared.EnterAnswer.{EnterAnswer}
 use Rattle.desk.specs.declared.EnterAnswer.the-variants.{Granted, Waits, Refused as EnterRefused}
 use Rattle.desk.specs.declared.GetAnswer.{GetAnswer}

@@ -1,4 +1,3 @@
-pub mod Locks
 pub mod Desks
 pub mod Sound
 pub mod Steps

@@ -1,45 +1,60 @@
 -- The four steps, each a total function of all that it is given: what it answers, and the desk and buffers that it leaves. Assumes nothing.
+use mathlib.Core.Path.{_≡_}
 use mathlib.Core.List.{List, [], _∷_, _++_}
-use mathlib.Core.Bool.{Bool, true, false, not, _&&_, _||_}
+use mathlib.Core.Bool.{Bool, true, false, not, _||_}
 use mathlib.Core.Option.{Option, none, some}
-use Prim.Native.Nat.{ℕ, _+_, _*_, min}
-use lib.Dec.{eqb, leb, ltb}
+use Prim.Native.Nat.{ℕ, _+_, _*_, _≤_, _<_, min}
+use lib.Dec.{ltb}
 use lib.ListN.{length, getD, set, take}
-use Rattle.intervals.specs.Lists.{anyBelow, any, keep, over}
-use Rattle.intervals.specs.Answer.{Answer, done, refused, Check, _when_, refusal}
-use Rattle.intervals.specs.Hierarchy.{edgesOf, someEdge, sizeWrong, edgesTooMany, edgeWrong}
-use Rattle.desk.specs.declared.Mode.{Mode}
-use Rattle.desk.specs.declared.Mode.the-variants.{Reading, Writing}
-use Rattle.desk.specs.declared.Lock.{Lock}
-use Rattle.desk.specs.declared.Stage.{Stage}
-use Rattle.desk.specs.declared.Stage.the-variants.{Out, Waiting, Holding}
-use Rattle.desk.specs.declared.Entry.{Entry}
+use Rattle.lists.specs.Lists.{anyBelow, over}
+use Rattle.lists.specs.Answer.{Answer, done, refused, Check, _when_, refusal}
+use Rattle.hierarchy.specs.Hierarchy.{edgesOf, someEdge, sizeWrong, edgesTooMany, edgeWrong}
+use Rattle.locks.specs.declared.Mode.{Mode}
+use Rattle.locks.specs.declared.Lock.{Lock}
+use Rattle.locks.specs.declared.Stage.the-variants.{Waiting, Holding}
+use Rattle.locks.specs.Stages.{isOut, isWaiting, readsOnly}
+use Rattle.locks.specs.Lent.{Hierarchy, coverIn, tablesShort, intervalWrong, namesWrong, lockOn, insideLock, insideHold}
+use Rattle.parties.specs.Parties.{entryOf, isFree}
+use Rattle.arrivals.specs.Arrivals.{queuePlaces}
+use Rattle.parties.specs.Sweeps.{Sweep, leavingOf}
 use Rattle.desk.specs.declared.Desk.{Desk}
-use Rattle.desk.specs.Locks.{realInterval}
-use Rattle.desk.specs.Desks.{Hierarchy, lowIn, highIn, coverIn, entryOf, stageIn, stageAt, isOut, isWaiting, queueOf, queuePlaces, againstHolder, againstWaiter, meetsHolder, meetsWaiter}
+use Rattle.desk.specs.Desks.{stageAt, queueOf}
 use Rattle.desk.specs.Sound.{soundDesk}
 
 -- WHAT EVERY STEP LOOKS AT: 1, 5 to 7, 10 and 11, then what is its own
 
--- 1: a lent buffer is shorter than needed, which is 2n interval places and two numbers an edge
-abbrev pub tablesShort : Hierarchy → Bool
-tablesShort H = ltb (length (H .intervals)) (2 * H .n) || ltb (length (H .edges)) (2 * H .edgeCount)
-
--- 10: a node's interval not within 1 to 256, low above high or not inside node 0's
-abbrev pub intervalWrong : Hierarchy → ℕ → Bool
-intervalWrong H node =
-    not (realInterval (lowIn H node) (highIn H node)) || ltb (lowIn H node) (lowIn H 0) || ltb (highIn H 0) (highIn H node)
-
--- what every step looks at; `short` says that what is lent to this step alone is too short, and `own` is what it alone looks at
-abbrev pub stepChecks : Hierarchy → Desk → ℕ → (short : Bool) → List Check → List Check
-stepChecks H d party short own =
+-- of what every step looks at, what is asked of the lent buffers alone; `short` says that what is lent to this step alone is too short
+abbrev pub tableChecks : Hierarchy → (short : Bool) → List Check → List Check
+tableChecks H short own =
     1 when (tablesShort H || short)
     ∷ 5 when sizeWrong (H .n)
     ∷ 6 when edgesTooMany (H .edgeCount)
     ∷ 7 when someEdge (edgeWrong (H .n)) (edgesOf (H .edges) (H .edgeCount))
-    ∷ 10 when (anyBelow (H .n) (intervalWrong H) || not (soundDesk H d))
-    ∷ 11 when ltb 31 party
     ∷ own
+
+-- what every step looks at; `own` is what it alone looks at
+abbrev pub stepChecks : Hierarchy → Desk → ℕ → (short : Bool) → List Check → List Check
+stepChecks H d party short own =
+    tableChecks H short
+    (10 when (anyBelow (H .n) (intervalWrong H) || not (soundDesk H d))
+    ∷ 11 when ltb 31 party
+    ∷ own)
+
+-- the same by name: what a step that none of these refuses knows (`step-facts`, proofs/Facts)
+pub record StepFacts (H : Hierarchy) (d : Desk) (party : ℕ) (short : Bool) : Type 0 where
+  -- 1: the intervals, the edges and what is lent to this step alone are long enough
+  pub intervals-lent : 2 * H .n ≤ length (H .intervals)
+  pub edges-lent : 2 * H .edgeCount ≤ length (H .edges)
+  pub own-lent : short ≡ false
+  -- 5, 6, 7: n, the edge count and each edge are right
+  pub sized : sizeWrong (H .n) ≡ false
+  pub edges-few : edgesTooMany (H .edgeCount) ≡ false
+  pub edges-right : someEdge (edgeWrong (H .n)) (edgesOf (H .edges) (H .edgeCount)) ≡ false
+  -- 10: each interval is right, and the desk is sound
+  pub intervals-right : anyBelow (H .n) (intervalWrong H) ≡ false
+  pub sound : soundDesk H d ≡ true
+  -- 11: the party is one of 0 to 31
+  pub party-below : party < 32
 
 -- the desk counts grants; the count stops at 4,294,967,295
 abbrev pub countGrants : ℕ → ℕ → ℕ
@@ -56,22 +71,17 @@ pub record EnterResult : Type 0 where
   pub desk : Desk
   pub answer : Answer Admission
 
--- 15: name count not 1 to 8, or node not below n
-abbrev pub namesWrong : ℕ → List ℕ → ℕ → Bool
-namesWrong n names nameCount = not (leb 1 nameCount && leb nameCount 8) || any (λ node. not (ltb node n)) (take nameCount names)
+-- what enter alone looks at
+abbrev pub enterOwn : Hierarchy → Desk → ℕ → List ℕ → ℕ → List Check
+enterOwn H d party names nameCount =
+    12 when not (isOut (stageAt d party))
+    ∷ 15 when namesWrong (H .n) names nameCount
+    ∷ []
 
 -- enter is lent as many names as its name count says
 abbrev pub enterRefusal : Hierarchy → Desk → ℕ → List ℕ → ℕ → Option ℕ
 enterRefusal H d party names nameCount =
-    refusal
-    (stepChecks H d party (ltb (length names) nameCount)
-    (12 when not (isOut (stageAt d party))
-    ∷ 15 when namesWrong (H .n) names nameCount
-    ∷ []))
-
--- a hold consists of its party, mode, cover and the cover's interval
-abbrev pub lockOn : Hierarchy → Mode → ℕ → Lock
-lockOn H mode cover = record { mode = mode; cover = cover; low = lowIn H cover; high = highIn H cover }
+    refusal (stepChecks H d party (ltb (length names) nameCount) (enterOwn H d party names nameCount))
 
 -- the party holds the lock
 abbrev pub grantTo : Desk → ℕ → Lock → Desk
@@ -85,7 +95,7 @@ queueLast d party l =
 
 -- it conflicts with no holder and no waiter
 abbrev pub free : Desk → Lock → Bool
-free d l = not (anyBelow 32 (λ other. againstHolder l (stageAt d other) || againstWaiter l (stageAt d other)))
+free d l = isFree (d .entries) l
 
 -- granted where the lock is free
 abbrev pub enterIf : Bool → Desk → ℕ → Lock → EnterResult
@@ -104,25 +114,28 @@ enterStep H d party mode names nameCount =
 
 -- GET
 
--- the node's interval lies inside the hold's
-abbrev pub insideLock : Hierarchy → ℕ → Lock → Bool
-insideLock H node l = leb (l .low) (lowIn H node) && leb (highIn H node) (l .high)
-
--- 16 is given where this is false: of what the party holds
-abbrev pub insideHold : Hierarchy → ℕ → Stage → Bool
-insideHold H node Out = false
-insideHold H node (Waiting l) = false
-insideHold H node (Holding l) = insideLock H node l
-
--- get and put are lent the n values
-abbrev pub valueChecks : Hierarchy → Desk → ℕ → ℕ → List ℕ → List Check → List Check
-valueChecks H d party node values own =
-    stepChecks H d party (ltb (length values) (H .n))
-    (13 when isOut (stageAt d party)
+-- what get and put look at besides; `own` is what the one of them alone looks at
+abbrev pub nodeChecks : Hierarchy → Desk → ℕ → ℕ → List Check → List Check
+nodeChecks H d party node own =
+    13 when isOut (stageAt d party)
     ∷ 14 when isWaiting (stageAt d party)
     ∷ 15 when not (ltb node (H .n))
     ∷ 16 when not (insideHold H node (stageAt d party))
-    ∷ own)
+    ∷ own
+
+-- the same by name: what a get or put that none of these refuses knows (`node-facts`, proofs/Facts)
+pub record NodeFacts (H : Hierarchy) (d : Desk) (party node : ℕ) : Type 0 where
+  -- 13, 14: the party holds
+  pub hold : Lock
+  pub holds : stageAt d party ≡ Holding hold
+  -- 15: the node is one of the hierarchy's
+  pub below : node < H .n
+  -- 16: its interval lies inside the hold's
+  pub inside : insideLock H node hold ≡ true
+
+-- get and put are lent the n values
+abbrev pub valueChecks : Hierarchy → Desk → ℕ → ℕ → List ℕ → List Check → List Check
+valueChecks H d party node values own = stepChecks H d party (ltb (length values) (H .n)) (nodeChecks H d party node own)
 
 pub record GetResult : Type 0 where
   pub desk : Desk
@@ -139,17 +152,6 @@ getStep H d party node values = getUnless (refusal (valueChecks H d party node v
 
 -- PUT
 
--- the mode is reading
-abbrev pub isReading : Mode → Bool
-isReading Reading = true
-isReading Writing = false
-
--- 17: put in a reading visit
-abbrev pub readsOnly : Stage → Bool
-readsOnly Out = false
-readsOnly (Waiting l) = false
-readsOnly (Holding l) = isReading (l .mode)
-
 pub record PutResult : Type 0 where
   pub desk : Desk
   pub values : List ℕ
@@ -160,52 +162,20 @@ abbrev pub putUnless : Option ℕ → Desk → ℕ → ℕ → List ℕ → PutR
 putUnless (some k) d node value values = record { desk = d; values = values; answer = refused k }
 putUnless none d node value values = record { desk = d; values = set values node value; answer = done tt }
 
+-- what put alone looks at
+abbrev pub putOwn : Desk → ℕ → List Check
+putOwn d party = 17 when readsOnly (stageAt d party) ∷ []
+
 -- the same for a writing visit; that one value becomes the given number
 unfoldable pub putStep : Hierarchy → Desk → ℕ → ℕ → ℕ → List ℕ → PutResult
 putStep H d party node value values =
-    putUnless (refusal (valueChecks H d party node values (17 when readsOnly (stageAt d party) ∷ []))) d node value values
+    putUnless (refusal (valueChecks H d party node values (putOwn d party))) d node value values
 
 -- LEAVE
 
--- how far the pass over the waiters has come: the entries, the parties that stay waiting, and those granted, each in order
-pub record Sweep : Type 0 where
-  pub entries : List Entry
-  pub stay : List ℕ
-  pub granted : List ℕ
-
--- a waiter stays waiting
-abbrev pub staysWaiting : Sweep → ℕ → Sweep
-staysWaiting s party = record { entries = s .entries; stay = s .stay ++ (party ∷ []); granted = s .granted }
-
--- a waiter is granted what it waits for
-abbrev pub isGranted : Sweep → ℕ → Lock → Sweep
-isGranted s party l =
-    record { entries = set (s .entries) party (entryOf (Holding l)); stay = s .stay; granted = s .granted ++ (party ∷ []) }
-
--- the one or the other
-abbrev pub offerIf : Bool → Sweep → ℕ → Lock → Sweep
-offerIf true s party l = isGranted s party l
-offerIf false s party l = staysWaiting s party
-
--- a waiter that conflicts with no holder, those just granted included, and with no earlier party still waiting, is granted
-abbrev pub offerTo : Sweep → ℕ → Stage → Sweep
-offerTo s party Out = staysWaiting s party
-offerTo s party (Waiting l) = offerIf (not (meetsHolder (s .entries) l || meetsWaiter (s .entries) (s .stay) l)) s party l
-offerTo s party (Holding l) = staysWaiting s party
-
--- one waiter is taken
-unfoldable pub offer : Sweep → ℕ → Sweep
-offer s party = offerTo s party (stageIn (s .entries) party)
-
--- waiters are taken once, in arrival order
-unfoldable pub sweep : Sweep → List ℕ → Sweep
-sweep s [] = s
-sweep s (party ∷ parties) = sweep (offer s party) parties
-
 -- a holder gives up its hold, a waiter its call; the others are then taken
 abbrev pub afterLeaving : Desk → ℕ → Sweep
-afterLeaving d party =
-    sweep (record { entries = set (d .entries) party (entryOf Out); stay = []; granted = [] }) (keep (λ other. not (eqb other party)) (queueOf d))
+afterLeaving d party = leavingOf (d .entries) (queueOf d) party
 
 pub record LeaveResult : Type 0 where
   pub desk : Desk
@@ -226,9 +196,13 @@ abbrev pub leaveUnless : Option ℕ → Desk → ℕ → List ℕ → LeaveResul
 leaveUnless (some k) d party list = record { desk = d; list = list; answer = refused k }
 leaveUnless none d party list = leaveWith (afterLeaving d party) d list
 
+-- what leave alone looks at
+abbrev pub leaveOwn : Desk → ℕ → List Check
+leaveOwn d party = 13 when isOut (stageAt d party) ∷ []
+
 -- leave is lent its 32 bytes
 abbrev pub leaveRefusal : Hierarchy → Desk → ℕ → List ℕ → Option ℕ
-leaveRefusal H d party list = refusal (stepChecks H d party (ltb (length list) 32) (13 when isOut (stageAt d party) ∷ []))
+leaveRefusal H d party list = refusal (stepChecks H d party (ltb (length list) 32) (leaveOwn d party))
 
 -- a holder gives up its hold, a waiter its call; waiters are then taken once in arrival order
 unfoldable pub leaveStep : Hierarchy → Desk → ℕ → List ℕ → LeaveResult

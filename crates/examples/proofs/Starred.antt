@@ -1,23 +1,30 @@
 -- THE STARRED CASES: the whole table passes, by computation. Assumes nothing.
 use mathlib.Core.Path.{_≡_, refl}
 use mathlib.Core.Bool.{true}
-use Rattle.intervals.specs.Lists.{allBelow, anyBelow, every, any, tails, keep, count, over, foldFrom, least, greatest}
-use Rattle.intervals.specs.Answer.{refusal}
-use Rattle.intervals.specs.Hierarchy.{children, someEdge, spread, spreads, reach, edgeTwice, someUnreached}
+use Rattle.lists.specs.Lists.{allBelow, anyBelow, every, any, keep, count, over, foldFrom, least, greatest}
+use Rattle.lists.specs.Answer.{refusal}
+use Rattle.hierarchy.specs.Hierarchy.{children, someEdge, spread, spreads, reach, edgeTwice, someUnreached}
 use Rattle.intervals.specs.Numbering.{meet, visit, inside, walk, numbering}
 use Rattle.intervals.specs.Intervals.{numbersAmong, lowOf, highOf, intervalsFrom, intervalTable}
-use Rattle.intervals.specs.Cover.{closest}
+use Rattle.covers.specs.Cover.{closest}
 use Rattle.intervals.specs.Build.{buildStep}
-use Rattle.blocks.specs.Fletcher.{words, sums, fletcher}
-use Rattle.blocks.specs.Record.{enterRight, recordRight}
-use Rattle.blocks.specs.Block.{inOrder, afterRecord, afterRecords, countRight, headRight, afterBlock, recordsIn, blockBody, blockOf}
+use Rattle.octets.specs.Fletcher.{words, sums, fletcher}
+use Rattle.blocks.specs.Record.{enterRight, kinds, rowIn, recordRight, inOrder}
+use Rattle.blocks.specs.Block.{afterRecord, afterRecords, countRight, headRight, afterBlock, recordsIn, blockBody, blockOf}
 use Rattle.blocks.specs.File.{afterBlocks, recordsOf, notBlocks, blocksOf}
-use Rattle.desk.specs.Sound.{soundDesk}
-use Rattle.desk.specs.Steps.{enterStep, getStep, putStep, offer, sweep, leaveStep}
-use Rattle.replay.specs.Replay.{eachRecord, edgeTable, perform, also, performAll, runRecords, runFile}
+use Rattle.parties.specs.Sound.{soundParties}
+use Rattle.parties.specs.Sweeps.{offer, sweep}
+use Rattle.desk.specs.Steps.{enterStep, getStep, putStep, leaveStep}
+use Rattle.runs.specs.Run.{lend, restored, lentTo, afterEnter, afterGet, afterPut, listed, afterLeave, moveCall, move, alsoRan, run}
+use Rattle.replay.specs.Replay.{eachRecord, edgeTable, runRecords, runFile}
 use Rattle.examples.specs.Cases.{sameNumbers, asNumbers, sameAnswers, wrote, disjoint, gave, passes}
 use Rattle.examples.specs.Table.{fileT, fileShared, starred}
 
 pub all-starred : every passes starred ≡ true
-unfolding allBelow anyBelow every any tails keep count over foldFrom least greatest refusal children someEdge spread spreads reach edgeTwice someUnreached meet visit inside walk numbering numbersAmong lowOf highOf intervalsFrom intervalTable closest buildStep words sums fletcher enterRight recordRight inOrder afterRecord afterRecords countRight headRight afterBlock recordsIn blockBody blockOf afterBlocks recordsOf notBlocks blocksOf soundDesk enterStep getStep putStep offer sweep leaveStep eachRecord edgeTable perform also performAll runRecords runFile sameNumbers asNumbers sameAnswers wrote disjoint gave passes fileT fileShared starred
+unfolding allBelow anyBelow every any keep count over foldFrom least greatest refusal children someEdge spread spreads reach edgeTwice
+    someUnreached meet visit inside walk numbering numbersAmong lowOf highOf intervalsFrom intervalTable closest buildStep words sums
+    fletcher enterRight kinds rowIn recordRight inOrder afterRecord afterRecords countRight headRight afterBlock recordsIn blockBody blockOf afterBlocks
+    recordsOf notBlocks blocksOf soundParties enterStep getStep putStep offer sweep leaveStep eachRecord edgeTable lend restored lentTo afterEnter afterGet afterPut listed afterLeave
+    moveCall move alsoRan run
+    runRecords runFile sameNumbers asNumbers sameAnswers wrote disjoint gave passes fileT fileShared starred
 all-starred = refl

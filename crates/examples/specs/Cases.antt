@@ -4,10 +4,10 @@ use mathlib.Core.Bool.{Bool, true, false, _&&_, _||_}
 use Prim.Native.Nat.{ℕ, _*_, _/_}
 use lib.Dec.{eqb}
 use lib.ListN.{length, replicate}
-use Rattle.intervals.specs.Answer.{Answer, done, refused as denied}
-use Rattle.intervals.specs.Hierarchy.{reach}
+use Rattle.lists.specs.Answer.{Answer, done, refused as denied}
+use Rattle.hierarchy.specs.Hierarchy.{reach}
 use Rattle.intervals.specs.Build.{BuildResult, buildStep}
-use Rattle.intervals.specs.Cover.{lowAt, highAt, coverOf}
+use Rattle.covers.specs.Cover.{lowAt, highAt, coverOf}
 use Rattle.blocks.specs.File.{fileOf}
 use Rattle.replay.specs.Replay.{StepAnswer, granted, waits, value, stored, left, refused, FileRun, runFile}
 

@@ -1,31 +1,22 @@
 -- Each refusal at its edge: what the definitions give just inside and just outside, beside the paper's figure. Assumes nothing.
 use mathlib.Core.List.{List, [], _∷_}
-use mathlib.Core.Bool.{Bool}
-use mathlib.Core.Option.{Option, none, some}
 use Prim.Native.Nat.{ℕ}
-use lib.Dec.{eqb}
 use lib.ListN.{replicate}
-use Rattle.intervals.specs.Lists.{one}
-use Rattle.intervals.specs.Hierarchy.{someEdge, edgeWrong, sizeWrong, edgesTooMany, edgeTwice, someUnreached}
+use Rattle.lists.specs.Answer.{numberOf}
+use Rattle.lists.specs.Lists.{one}
+use Rattle.hierarchy.specs.Hierarchy.{someEdge, edgeWrong, sizeWrong, edgesTooMany, edgeTwice, someUnreached}
 use Rattle.intervals.specs.Build.{buildShort}
 use Rattle.blocks.specs.File.{notBlocks}
 use Rattle.desk.specs.declared.Desk.{Desk}
-use Rattle.desk.specs.Locks.{conflictCall}
-use Rattle.desk.specs.Desks.{Hierarchy, lent, freshDesk}
+use Rattle.locks.specs.Locks.{conflictCall}
+use Rattle.locks.specs.Lent.{Hierarchy, lent, intervalWrong}
+use Rattle.desk.specs.Desks.{freshDesk}
 use Rattle.desk.specs.Sound.{soundDesk}
-use Rattle.desk.specs.Steps.{intervalWrong, countGrants, enterRefusal}
+use Rattle.desk.specs.Steps.{countGrants, enterRefusal}
 use Rattle.replay.specs.Replay.{granted, waits, value, stored, left, refused}
 use Rattle.examples.specs.Cases.{Case, listing}
+use Rattle.examples.specs.Rows.{Row, is}
 use Rattle.examples.specs.Table.{edge, enter1, get, put, leave, size}
-
--- what a definition gives, and the figure: of a condition 1 where it holds and 0 where it does not
-pub data Row : Type 0 where
-  is : (given figure : ℕ) → Row
-
--- a refusal's number; 0 where nothing is refused
-abbrev pub refusalNumber : Option ℕ → ℕ
-refusalNumber none = 0
-refusalNumber (some k) = k
 
 -- two nodes and one edge, with these intervals
 abbrev pub two : List ℕ → Hierarchy
@@ -37,7 +28,7 @@ listedOut = record { entries = freshDesk .entries; queue = freshDesk .queue; wai
 
 -- what enter refuses, of a fresh desk over two nodes of interval [1,1], by party, names and name count
 abbrev pub entering : ℕ → List ℕ → ℕ → ℕ
-entering party names nameCount = refusalNumber (enterRefusal (two (1 ∷ 1 ∷ 1 ∷ 1 ∷ [])) freshDesk party names nameCount)
+entering party names nameCount = numberOf (enterRefusal (two (1 ∷ 1 ∷ 1 ∷ 1 ∷ [])) freshDesk party names nameCount)
 
 -- the conditions, lowest number first
 unfoldable pub edges : List Row
@@ -141,7 +132,3 @@ stepEdges =
     ∷ value 1
     ∷ [])
     1 0 2
-
--- THE TEST of a row
-unfoldable pub right : Row → Bool
-right (is given figure) = eqb given figure

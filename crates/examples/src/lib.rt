@@ -1,1 +1,1 @@
-// The starred cases of the paper, in one table (specs/Table.antt) that one theorem covers (proofs/Starred.antt). No function is here.
+// Tables of cases (specs), each covered by one theorem (proofs): the starred cases, each condition at its edge, hierarchies, files, visits, steps. No function is here.

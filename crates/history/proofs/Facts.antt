@@ -1,61 +1,38 @@
--- What an unrefused get or put knows, what is lent, and which holders a leave makes. Assumes nothing.
+-- Which holders there are after a step, and what an unrefused get or put knows. Assumes nothing.
 use mathlib.Core.Path.{_≡_, refl, sym, ap, _∙_}
 use mathlib.Core.Logic.{_⊎_, inl, inr, _≢_}
 use mathlib.Core.List.{List, [], _∷_, _++_, map}
 use mathlib.Core.Bool.{Bool, true, false, not, _&&_, _||_, or-true, true≢false, and-comm}
-use mathlib.Core.Option.{Option, none, some}
-use Prim.Native.Nat.{ℕ, zero, suc, _+_, _*_, _≤_, _<_}
+use mathlib.Core.Option.{none}
+use Prim.Native.Nat.{ℕ, zero, suc, _≤_, _<_}
 use native.Mathlib.Omega.{arith}
 use lib.Dec.{eqb, leb, ltb}
-use lib.ListN.{length, getD, set, take, drop, replicate, length-take, length-set, List·getD-append}
-use lib.Seq.{getD-take, take-length}
-use borrow.Author.Tests.{eq-eqb, leb-true, ltb-true, ltb-false, not-false, not-true}
-use Rattle.intervals.specs.Lists.{allBelow, anyBelow, over}
-use Rattle.intervals.specs.Answer.{Check, refusal}
-use Rattle.intervals.proofs.Bools.{bool, and-left, and-right, or-left, or-right}
-use Rattle.intervals.proofs.Refusals.{NoneHolds, refusal-none}
-use Rattle.intervals.proofs.Bounded.{all-at, any-none}
-use Rattle.desk.specs.declared.Mode.{Mode}
-use Rattle.desk.specs.declared.Mode.the-variants.{Reading, Writing}
-use Rattle.desk.specs.declared.Lock.{Lock}
-use Rattle.desk.specs.declared.Stage.{Stage}
-use Rattle.desk.specs.declared.Stage.the-variants.{Out, Waiting, Holding}
-use Rattle.desk.specs.declared.Entry.{Entry}
+use lib.ListN.{length, set, replicate, length-set}
+use borrow.Author.Tests.{eq-eqb, leb-true, ltb-true, ltb-false, not-true}
+use Rattle.lists.specs.Lists.{allBelow, anyBelow}
+use Rattle.lists.specs.Answer.{Check, refusal}
+use Rattle.lists.proofs.Bools.{bool, and-left, and-right}
+use Rattle.lists.proofs.Bounded.{all-at}
+use Rattle.locks.specs.declared.Mode.{Mode}
+use Rattle.locks.specs.declared.Mode.the-variants.{Reading, Writing}
+use Rattle.locks.specs.declared.Lock.{Lock}
+use Rattle.locks.specs.declared.Stage.{Stage}
+use Rattle.locks.specs.declared.Stage.the-variants.{Out, Waiting, Holding}
+use Rattle.parties.specs.declared.Entry.{Entry}
 use Rattle.desk.specs.declared.Desk.{Desk}
-use Rattle.desk.specs.Locks.{bothReading, share, conflict, realInterval}
-use Rattle.desk.specs.Desks.{Hierarchy, lowIn, highIn, entryOf, stageIn, stageAt, isOut, isWaiting, againstHolder, meetsHolder, meetsWaiter}
-use Rattle.desk.specs.Sound.{holdersConflict, holdersApart, listsParties, listsOnce, listsWaiting, intervalsReal, coversRight, waitersHeldUp, soundDesk}
-use Rattle.desk.specs.Steps.{tablesShort, intervalWrong, valueChecks, insideLock, insideHold, Sweep, staysWaiting, isGranted, offerIf, offerTo, offer, sweep}
-use Rattle.history.specs.History.{Transaction, begun, visited}
-use Rattle.history.specs.Run.{Lending, lend, restored}
-
--- WHAT IS LENT
-pub lend-at : (t : List ℕ) (l : Lending) (i : ℕ) → i < length t → length t ≤ length (lend t l) → getD (lend t l) i 0 ≡ getD t i 0
-unfolding lend
-lend-at t l i h k =
-    let j : i < l .places = omega (arith, rw length-take at k) in
-    rw (getD-take (l .places) (t ++ l .behind) i 0 j) (List·getD-append t (l .behind) 0 i h)
-
-restored-take : (t : List ℕ) (k : ℕ) (b : List ℕ) → restored t (take k (t ++ b)) ≡ t
-unfolding restored over
-restored-take [] k b = refl
-restored-take (y ∷ t) zero b = take-length (y ∷ t)
-restored-take (y ∷ t) (suc k) b = ap (y ∷_) (restored-take t k b)
-
-restored-set : (t : List ℕ) (k : ℕ) (b : List ℕ) (r x : ℕ) → r < length (take k (t ++ b)) → restored t (set (take k (t ++ b)) r x) ≡ set t r x
-unfolding restored over
-restored-set [] k b r x h = refl
-restored-set (y ∷ t) zero b r x h = absurd (omega arith)
-restored-set (y ∷ t) (suc k) b zero x h = ap (x ∷_) (restored-take t k b)
-restored-set (y ∷ t) (suc k) b (suc r) x h = ap (y ∷_) (restored-set t k b r x (omega arith))
-
-pub restored-lend : (t : List ℕ) (l : Lending) → restored t (lend t l) ≡ t
-unfolding lend
-restored-lend t l = restored-take t (l .places) (l .behind)
-
-pub restored-lend-set : (t : List ℕ) (l : Lending) (r x : ℕ) → r < length (lend t l) → restored t (set (lend t l) r x) ≡ set t r x
-unfolding lend
-restored-lend-set t l r x h = restored-set t (l .places) (l .behind) r x h
+use Rattle.locks.specs.Locks.{bothReading, conflict}
+use Rattle.locks.specs.Lent.{Hierarchy, lowIn, highIn, intervalWrong}
+use Rattle.locks.specs.Stages.{holdersConflict}
+use Rattle.parties.specs.Parties.{entryOf, stageIn, meetsHolder, meetsWaiter}
+use Rattle.parties.specs.Sound.{holdersApart}
+use Rattle.parties.proofs.Clauses.{clauses}
+use Rattle.parties.specs.Sweeps.{Sweep, staysWaiting, isGranted, offerIf, offerTo, offer, sweep}
+use Rattle.desk.specs.Desks.{stageAt}
+use Rattle.desk.specs.Sound.{soundDesk}
+use Rattle.desk.specs.Steps.{StepFacts, NodeFacts, valueChecks}
+use Rattle.locks.proofs.Tables.{not-wrong}
+use Rattle.desk.proofs.Facts.{step-own, step-facts, node-own-none, node-facts}
+use Rattle.history.specs.History.{begun, visited}
 
 -- STAGES. A holder after a store held before, or is the one stored
 pub set-stage : (es : List Entry) (p q : ℕ) (x : Stage) (h : Lock) → stageIn (set es p (entryOf x)) q ≡ Holding h → ((p ≡ q) × (x ≡ Holding h)) ⊎ (stageIn es q ≡ Holding h)
@@ -146,23 +123,7 @@ sweep-holds p h (q ∷ qs) s e = step (sweep-holds p h qs (offer s q) e)
     step (inl g) = inl g
     step (inr g) = on (turn g)
 
--- WHAT A GET OR PUT THAT IS NOT REFUSED KNOWS, over the tables as lent
-pub record Touch (H : Hierarchy) (values : List ℕ) (d : Desk) (p node : ℕ) : Type 0 where
-  pub tables : 2 * H .n ≤ length (H .intervals)
-  pub enough : H .n ≤ length values
-  pub named : node < H .n
-  pub ordered : lowIn H node ≤ highIn H node
-  pub party : p < 32
-  pub hold : Lock
-  pub holds : stageAt d p ≡ Holding hold
-  pub within : insideLock H node hold ≡ true
-  pub sound : soundDesk H d ≡ true
-
-holder-of : (s : Stage) → isOut s ≡ false → isWaiting s ≡ false → (l : Lock) × (s ≡ Holding l)
-holder-of Out a b = absurd (true≢false a)
-holder-of (Waiting l) a b = absurd (true≢false b)
-holder-of (Holding l) a b = (l, refl)
-
+-- HOLDERS. What conflicts with another, the other conflicts with it
 pub conflict-sym : (a b : Lock) → conflict a b ≡ conflict b a
 conflict-sym a b = rw (and-comm (leb (a .low) (b .high)) (leb (b .low) (a .high)), both (a .mode) (b .mode))
   where
@@ -175,13 +136,11 @@ conflict-sym a b = rw (and-comm (leb (a .low) (b .high)) (leb (b .low) (a .high)
 -- no two holders conflict, from the test of the desk
 pub holders-apart : (H : Hierarchy) (d : Desk) → soundDesk H d ≡ true → (p q : ℕ) (g h : Lock) → p < 32 → q < 32 → p ≢ q
     → stageAt d p ≡ Holding g → stageAt d q ≡ Holding h → conflict h g ≡ false
-unfolding soundDesk
 holders-apart H d s p q g h i j ne eg eh = bool (ltb q p) (λ e. below p q g h i (ltb-true q p e) eg eh)
     (λ e. conflict-sym h g ∙ below q p h g j (let n = ltb-false q p e in omega (arith, ne)) eh eg)
   where
-    apart : holdersApart d ≡ true
-    apart = and-right (listsParties d && listsOnce d && listsWaiting d && intervalsReal d && coversRight H d) (holdersApart d)
-        (and-left (listsParties d && listsOnce d && listsWaiting d && intervalsReal d && coversRight H d && holdersApart d) (waitersHeldUp d) s)
+    apart : holdersApart (d .entries) ≡ true
+    apart = clauses H (d .entries) (d .queue) (d .waiting) s .apart
 
     below : (a b : ℕ) (x y : Lock) → a < 32 → b < a → stageAt d a ≡ Holding x → stageAt d b ≡ Holding y → conflict y x ≡ false
     below a b x y u v ex ey =
@@ -190,38 +149,22 @@ holders-apart H d s p q g h i j ne eg eh = bool (ltb q p) (λ e. below p q g h i
         (all-at (λ party. allBelow party (λ other. not (holdersConflict (stageAt d party) (stageAt d other)))) 32 a apart u) v in
         not-true (conflict y x) (rw (ex, ey) at none)
 
-pub touch : (H : Hierarchy) (d : Desk) (p node : ℕ) (values : List ℕ) (own : List Check) → NoneHolds (valueChecks H d p node values own) → Touch H values d p node
-touch H d p node values own f = made (holder-of (stageAt d p) (f .1 .1 .1 .1 .1 .1 .0) (f .1 .1 .1 .1 .1 .1 .1 .0))
-  where
-    short : (tablesShort H || ltb (length values) (H .n)) ≡ false
-    short = f .0
+-- where refusal 10 finds no interval wrong, each node's has a number
+pub right-ordered : (H : Hierarchy) → anyBelow (H .n) (intervalWrong H) ≡ false → (node : ℕ) → node < H .n → lowIn H node ≤ highIn H node
+right-ordered H right node h =
+    let low = lowIn H node in
+    let high = highIn H node in
+    leb-true low high (and-right (leb 1 low) (leb low high) (and-left (leb 1 low && leb low high) (leb high 256) (not-wrong H node right h .0)))
 
-    tables : (ltb (length (H .intervals)) (2 * H .n) || ltb (length (H .edges)) (2 * H .edgeCount)) ≡ false
-    tables = or-left (tablesShort H) (ltb (length values) (H .n)) short
+-- WHAT A GET OR PUT THAT IS NOT REFUSED KNOWS, over the tables as lent: what every step knows, and what it knows of its node
+pub record Touch (H : Hierarchy) (d : Desk) (party node : ℕ) (values : List ℕ) : Type 0 where
+  pub step : StepFacts H d party (ltb (length values) (H .n))
+  pub at-node : NodeFacts H d party node
 
-    fine : (anyBelow (H .n) (intervalWrong H) || not (soundDesk H d)) ≡ false
-    fine = f .1 .1 .1 .1 .0
+module _ (H : Hierarchy) (d : Desk) (party node : ℕ) (values : List ℕ) (own : List Check) (e : refusal (valueChecks H d party node values own) ≡ none) where
+  pub touch : Touch H d party node values
+  touch = record { step = step-facts H d party _ _ e; at-node = node-facts H d party node own (step-own H d party _ _ e) }
 
-    below : node < H .n
-    below = ltb-true node (H .n) (not-false (ltb node (H .n)) (f .1 .1 .1 .1 .1 .1 .1 .1 .0))
-
-    right : intervalWrong H node ≡ false
-    right = any-none (intervalWrong H) (H .n) node (or-left (anyBelow (H .n) (intervalWrong H)) (not (soundDesk H d)) fine) below
-
-    real : realInterval (lowIn H node) (highIn H node) ≡ true
-    real = not-false (realInterval (lowIn H node) (highIn H node))
-        (or-left (not (realInterval (lowIn H node) (highIn H node))) (ltb (lowIn H node) (lowIn H 0))
-        (or-left (not (realInterval (lowIn H node) (highIn H node)) || ltb (lowIn H node) (lowIn H 0)) (ltb (highIn H 0) (highIn H node)) right))
-
-    made : (l : Lock) × (stageAt d p ≡ Holding l) → Touch H values d p node
-    made (l, e) = record {
-      tables = ltb-false (length (H .intervals)) (2 * H .n) (or-left (ltb (length (H .intervals)) (2 * H .n)) (ltb (length (H .edges)) (2 * H .edgeCount)) tables);
-      enough = ltb-false (length values) (H .n) (or-right (tablesShort H) (ltb (length values) (H .n)) short);
-      named = below;
-      ordered = leb-true (lowIn H node) (highIn H node) (and-right (leb 1 (lowIn H node)) (leb (lowIn H node) (highIn H node)) (and-left (leb 1 (lowIn H node) && leb (lowIn H node) (highIn H node)) (leb (highIn H node) 256) real));
-      party = let k = ltb-false 31 p (f .1 .1 .1 .1 .1 .0) in omega arith;
-      hold = l;
-      holds = e;
-      within = rw e at (not-false (insideHold H node (stageAt d p)) (f .1 .1 .1 .1 .1 .1 .1 .1 .1 .0));
-      sound = not-false (soundDesk H d) (or-right (anyBelow (H .n) (intervalWrong H)) (not (soundDesk H d)) fine);
-    }
+  -- its own check refuses nothing either
+  pub touch-own : refusal own ≡ none
+  touch-own = node-own-none H d party node own (step-own H d party _ _ e)

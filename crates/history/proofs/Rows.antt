@@ -6,12 +6,13 @@ use mathlib.Core.Bool.{Bool, true, false, _||_, or-true, or-false, true≢false}
 use Prim.Native.Nat.{ℕ, suc, _+_}
 use native.Mathlib.Omega.{arith}
 use lib.Dec.{eqb}
-use lib.ListN.{length, getD, set, length-append}
+use lib.ListN.{length, length-append}
 use lib.Seq.{getD-set-other, set-comm}
-use borrow.Author.Tests.{eqb-true, eqb-false, eq-eqb}
-use Rattle.intervals.specs.Answer.{done, refused}
+use borrow.Author.Tests.{eqb-true, eq-eqb}
+use Rattle.lists.specs.Answer.{done, refused}
 use Rattle.desk.specs.Steps.{granted, waits}
-use Rattle.history.specs.History.{Op, didGet, didPut, Transaction, begun, visited, withOp, addToLatest, Event, entered, got, stored, left, noted, historyFrom, history, grantedBy, grantedIn, bareEvent, opsIn, finds, leaves, opsFind, opsLeave, serialFinds, serialLeaves}
+use Rattle.runs.specs.Run.{Event, entered, got, stored, left}
+use Rattle.history.specs.History.{Op, didGet, didPut, Transaction, begun, visited, withOp, addToLatest, noted, historyFrom, history, grantedBy, grantedIn, bareEvent, opsIn, finds, leaves, opsFind, opsLeave, serialFinds, serialLeaves}
 
 module _ {A : Type 0} where
   unfoldable pub nodeOf : Op A → ℕ
@@ -120,7 +121,7 @@ module _ {A : Type 0} where
   unfolding addToLatest
   add-here p o v vs e = rw (e, addToLatest)
 
-  -- The row has a visit of p, and of every op in the visited after p's latest, P holds.
+  -- The row has a visit of p, and of every op in the visits after p's latest, P holds.
   pub data Clear (P : Op A → Type 0) (p : ℕ) : List (Transaction A) → Type 0 where
     latest : {v : Transaction A} {vs : List (Transaction A)} → v .party ≡ p → visited p vs ≡ false → AllRow P vs → Clear P p (v ∷ vs)
     later : {v : Transaction A} {vs : List (Transaction A)} → Clear P p vs → Clear P p (v ∷ vs)
@@ -150,7 +151,8 @@ module _ {A : Type 0} where
   insert-leaves u p o (v ∷ vs) (later c) =
       rw (add-later p o v vs (Clear-visited c)) (insert-leaves (opsLeave u (v .ops)) p o vs c)
 
-  pub insert-finds : (u : List ℕ) (p : ℕ) (o : Op A) (vs : List (Transaction A)) → Clear (Commute o) p vs → serialFinds u (addToLatest p o vs) ≡ addToLatest p (finds (serialLeaves u vs) o) (serialFinds u vs)
+  pub insert-finds : (u : List ℕ) (p : ℕ) (o : Op A) (vs : List (Transaction A)) → Clear (Commute o) p vs
+      → serialFinds u (addToLatest p o vs) ≡ addToLatest p (finds (serialLeaves u vs) o) (serialFinds u vs)
   unfolding serialFinds serialLeaves withOp
   insert-finds u p o (v ∷ vs) (latest e n h) =
       let w : List ℕ = opsLeave u (v .ops) in
@@ -171,7 +173,7 @@ module _ {A : Type 0} where
         insert-finds w p o vs c,
       )
 
-  -- new visited at the end
+  -- new visits at the end
   pub append-leaves : (u : List ℕ) (vs : List (Transaction A)) (qs : List ℕ) → serialLeaves u (vs ++ map begun qs) ≡ serialLeaves u vs
   unfolding serialLeaves opsLeave begun
   append-leaves u [] [] = refl

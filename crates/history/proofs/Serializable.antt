@@ -1,34 +1,41 @@
 -- DEMAND 3, one theorem over a whole list of steps: `serializable`, from any start values, and `demand-3`, from zeros. Assumes nothing.
-use mathlib.Core.Path.{_≡_, refl, sym, ap, _∙_}
+use mathlib.Core.Path.{_≡_, refl, sym, ap, subst, _∙_}
 use mathlib.Core.Logic.{_⊎_, inl, inr, _≢_}
 use mathlib.Core.List.{List, [], _∷_, _++_, map}
-use mathlib.Core.Bool.{Bool, true, false, not, _&&_, _||_, true≢false}
+use mathlib.Core.Bool.{Bool, true, false, not, _||_, true≢false}
 use mathlib.Core.Option.{Option, none, some}
-use Prim.Native.Nat.{ℕ, zero, suc, _+_, _*_, _≤_, _<_}
+use Prim.Native.Nat.{ℕ, suc, _+_, _*_, _≤_}
 use native.Mathlib.Omega.{arith}
-use lib.Dec.{eqb, leb, ltb}
+use lib.Dec.{eqb, leb}
 use lib.ListN.{length, getD, set, take, drop, replicate, length-set, length-replicate}
 use lib.Seq.{take-append-seam}
-use borrow.Author.Tests.{eqb-true, eqb-false, eq-eqb, leb-true, le-leb, not-false}
-use Rattle.intervals.specs.Lists.{keep, over}
-use Rattle.intervals.specs.Answer.{Check, _when_, refusal}
-use Rattle.intervals.proofs.Bools.{and-left, and-right}
-use Rattle.intervals.proofs.Refusals.{NoneHolds, refusal-none}
+use borrow.Author.Tests.{eqb-true, eqb-false, eq-eqb, leb-true, le-leb, ltb-false, not-false}
+use Rattle.lists.specs.Lists.{keep, over}
+use Rattle.lists.specs.Answer.{Check}
+use Rattle.lists.proofs.Bools.{and-left, and-right}
+use Rattle.lists.proofs.Refusals.{refusal-none}
 use Rattle.interval_laws.proofs.Laws.{built-length, taken}
-use Rattle.desk.specs.declared.Mode.{Mode}
-use Rattle.desk.specs.declared.Mode.the-variants.{Reading, Writing}
-use Rattle.desk.specs.declared.Lock.{Lock}
-use Rattle.desk.specs.declared.Stage.{Stage}
-use Rattle.desk.specs.declared.Stage.the-variants.{Out, Waiting, Holding}
+use Rattle.locks.specs.declared.Mode.{Mode}
+use Rattle.locks.specs.declared.Mode.the-variants.{Reading, Writing}
+use Rattle.locks.specs.declared.Lock.{Lock}
+use Rattle.locks.specs.declared.Stage.{Stage}
+use Rattle.locks.specs.declared.Stage.the-variants.{Out, Waiting, Holding}
+use Rattle.locks.specs.Locks.{bothReading, share, conflict}
+use Rattle.locks.specs.Stages.{isReading, readsOnly}
+use Rattle.locks.specs.Lent.{Hierarchy, lowIn, highIn, coverIn, lockOn, insideLock}
+use Rattle.parties.specs.Parties.{entryOf}
+use Rattle.parties.specs.Sweeps.{Sweep, sweep}
+use Rattle.desk.specs.Steps.{putOwn, enterRefusal, leaveRefusal, free, grantTo, enterIf, enterUnless, enterStep, getUnless, getStep, putUnless, putStep, leaveWith, leaveUnless, leaveStep}
+use Rattle.runs.specs.Run.{Lending, lend, Call, enter, get, put, leave, Step, lentTo, State, start, Moved, afterEnter, afterGet, afterPut, listed, afterLeave, moveCall, move, alsoRan, run}
+use Rattle.runs.specs.Over.{startOver, runOver}
+use Rattle.runs.proofs.Lends.{lend-at, restored-lend, restored-lend-set, low-lent, high-lent}
+use Rattle.runs.proofs.Runs.{run-over}
+use Rattle.history.specs.History.{Op, didGet, didPut, Transaction, begun, visited, addToLatest, noted, historyFrom, history, bare, bareEvent, opsIn, counted, countedFrom, finds, leaves, serialFinds, serialLeaves}
+use Rattle.history.specs.Serial.{Built, Serial, SerialOver}
 use Rattle.desk.specs.declared.Desk.{Desk}
-use Rattle.desk.specs.Locks.{bothReading, share, conflict}
-use Rattle.desk.specs.Desks.{Hierarchy, lowIn, highIn, coverIn, entryOf, stageAt, queueOf}
-use Rattle.desk.specs.Steps.{enterRefusal, lockOn, leaveRefusal, free, grantTo, queueLast, enterIf, enterUnless, enterStep, insideLock, valueChecks, getUnless, getStep, isReading, readsOnly, putUnless, putStep, Sweep, sweep, afterLeaving, leaveWith, leaveUnless, leaveStep}
-use Rattle.history.specs.History.{Op, didGet, didPut, Transaction, begun, visited, addToLatest, Event, noted, historyFrom, history, bare, bareEvent, opsIn, counted, countedFrom, finds, leaves, serialFinds, serialLeaves}
-use Rattle.history.specs.Run.{Lending, lend, restored, Call, enter, get, put, leave, Step, lentTo, State, start, Moved, afterEnter, afterGet, afterPut, listed, afterLeave, moveCall, move, Ran, alsoRan, run}
-use Rattle.history.specs.Serial.{Built, rowOf, Serial}
+use Rattle.desk.specs.Desks.{stageAt, queueOf}
 use Rattle.history.proofs.Rows.{nodeOf, IsGet, Commute, Clear, Clear-map, Clear-new, Clear-granted, Clear-add, Clear-visited, insert-leaves, insert-finds, append-leaves, append-finds, opsIn-add, opsIn-new, row-order}
-use Rattle.history.proofs.Facts.{lend-at, restored-lend, restored-lend-set, set-stage, holder-below, all-out, sweep-length, sweep-holds, Touch, touch, holders-apart}
+use Rattle.history.proofs.Facts.{set-stage, holder-below, all-out, sweep-length, sweep-holds, holders-apart, right-ordered, Touch, touch, touch-own}
 
 -- MODES AND LOCKS
 reading≢writing : Reading ≢ Writing
@@ -85,36 +92,33 @@ own-safe H l g o h i own c j = step own (no-conflict g l c (sharing H (nodeOf o)
     step (inl k) b = (b .0, k)
     step (inr w) b = absurd (reading≢writing (sym (b .1) ∙ w))
 
--- the intervals as lent are the hierarchy's
-low-lent : (H : Hierarchy) (x : Step) (node : ℕ) → length (H .intervals) ≡ 2 * H .n → node < H .n → 2 * H .n ≤ length ((lentTo x H) .intervals) → lowIn (lentTo x H) node ≡ lowIn H node
-unfolding lentTo
-low-lent H x node b h t = lend-at (H .intervals) (x .intervals) (2 * node) (omega arith) (omega arith)
-
-high-lent : (H : Hierarchy) (x : Step) (node : ℕ) → length (H .intervals) ≡ 2 * H .n → node < H .n → 2 * H .n ≤ length ((lentTo x H) .intervals) → highIn (lentTo x H) node ≡ highIn H node
-unfolding lentTo
-high-lent H x node b h t = lend-at (H .intervals) (x .intervals) (2 * node + 1) (omega arith) (omega arith)
-
--- over one hierarchy with two numbers for each node, from the values u
-module _ (H : Hierarchy) (two-each : length (H .intervals) ≡ 2 * H .n) (u : List ℕ) where
+-- from the values u
+module _ (u : List ℕ) where
   -- THE INVARIANT between two steps. row: the book's; answered: the same with each get's answer noted; m: the gets and puts not refused
   record Kept (s : State) (row : List (Transaction (Unit {0}))) (answered : List (Transaction ℕ)) (m : ℕ) : Type 0 where
-    sized : length (s .values) ≡ H .n
+    -- the hierarchy has two numbers for each node
+    two-each : length (s .hierarchy .intervals) ≡ 2 * s .hierarchy .n
+    sized : length (s .values) ≡ s .hierarchy .n
     parties : length (s .desk .entries) ≡ 32
     values : s .values ≡ serialLeaves u row
     notes : answered ≡ serialFinds u row
     whole : opsIn row ≡ m
-    clear : (q : ℕ) (l : Lock) → stageAt (s .desk) q ≡ Holding l → Clear (Safe H l) q row
+    clear : (q : ℕ) (l : Lock) → stageAt (s .desk) q ≡ Holding l → Clear (Safe (s .hierarchy) l) q row
 
   -- the step's event takes the invariant on
   Onward : List (Transaction (Unit {0})) → List (Transaction ℕ) → ℕ → Moved → Type 0
   Onward row notes m x = Kept (x .state) (noted row (bareEvent (x .event))) (noted notes (x .event)) (counted m (x .event))
 
   module _ (s : State) (row : List (Transaction (Unit {0}))) (notes : List (Transaction ℕ)) (m : ℕ) (k : Kept s row notes m) where
+    abbrev H : Hierarchy
+    H = s .hierarchy
+
     -- A GET OR PUT: p, which holds l, does o
     touched : (p : ℕ) (l : Lock) (o : Op (Unit {0})) → stageAt (s .desk) p ≡ Holding l → lowIn H (nodeOf o) ≤ highIn H (nodeOf o) → insideLock H (nodeOf o) l ≡ true
         → IsGet o ⊎ (l .mode ≡ Writing) → ((q : ℕ) (g : Lock) → p ≢ q → stageAt (s .desk) q ≡ Holding g → conflict g l ≡ false)
-        → Kept (record { desk = s .desk; values = leaves (s .values) o }) (addToLatest p o row) (addToLatest p (finds (s .values) o) notes) (suc m)
+        → Kept (record { hierarchy = H; desk = s .desk; values = leaves (s .values) o }) (addToLatest p o row) (addToLatest p (finds (s .values) o) notes) (suc m)
     touched p l o e h i own apart = record {
+      two-each = k .two-each;
       sized = length-leaves (s .values) o ∙ k .sized;
       parties = k .parties;
       values = ap (λ w. leaves w o) (k .values) ∙ sym (insert-leaves u p o row mine);
@@ -133,8 +137,9 @@ module _ (H : Hierarchy) (two-each : length (H .intervals) ≡ 2 * H .n) (u : Li
     -- A NEW DESK d, whose holders held before or have a new visit among those of qs
     granted-kept : (d : Desk) (qs : List ℕ) → length (d .entries) ≡ 32
         → ((q : ℕ) (l : Lock) → stageAt d q ≡ Holding l → (visited {A = Unit {0}} q (map begun qs) ≡ true) ⊎ (stageAt (s .desk) q ≡ Holding l))
-        → Kept (record { desk = d; values = s .values }) (row ++ map begun qs) (notes ++ map begun qs) m
+        → Kept (record { hierarchy = H; desk = d; values = s .values }) (row ++ map begun qs) (notes ++ map begun qs) m
     granted-kept d qs long from = record {
+      two-each = k .two-each;
       sized = k .sized;
       parties = long;
       values = k .values ∙ sym (append-leaves u row qs);
@@ -163,6 +168,7 @@ module _ (H : Hierarchy) (two-each : length (H .intervals) ≡ 2 * H .n) (u : Li
             new q g (inl e) = inl (rw (eq-eqb p q (e .0)))
             new q g (inr e) = inr e
         step false = record {
+          two-each = k .two-each;
           sized = k .sized;
           parties = long (Waiting l);
           values = k .values;
@@ -203,69 +209,63 @@ module _ (H : Hierarchy) (two-each : length (H .intervals) ≡ 2 * H .n) (u : Li
         held q l (inr e) = inr (was q l (set-stage (s .desk .entries) p q Out l e))
 
     -- GET and PUT share this
-    touch-kept : (x : Step) (l : Lending) (p : ℕ) (o : Op (Unit {0})) → (t : Touch (lentTo x H) (lend (s .values) l) (s .desk) p (nodeOf o)) → IsGet o ⊎ (t .hold .mode ≡ Writing)
-        → Kept (record { desk = s .desk; values = leaves (s .values) o }) (addToLatest p o row) (addToLatest p (finds (s .values) o) notes) (suc m)
+    touch-kept : (x : Step) (l : Lending) (p : ℕ) (o : Op (Unit {0})) → (t : Touch (lentTo x H) (s .desk) p (nodeOf o) (lend (s .values) l))
+        → IsGet o ⊎ (t .at-node .hold .mode ≡ Writing)
+        → Kept (record { hierarchy = H; desk = s .desk; values = leaves (s .values) o }) (addToLatest p o row) (addToLatest p (finds (s .values) o) notes) (suc m)
     unfolding lentTo
     touch-kept x l p o t own =
-        touched p (t .hold) o (t .holds) (rw (low, high) at (t .ordered)) (rw (low, high) at (t .within)) own
-        (λ q g ne e. holders-apart (lentTo x H) (s .desk) (t .sound) p q (t .hold) g (t .party) (omega (arith, holder-below (s .desk .entries) q g e, k .parties)) ne (t .holds) e)
-      where
-        low : lowIn (lentTo x H) (nodeOf o) ≡ lowIn H (nodeOf o)
-        low = low-lent H x (nodeOf o) two-each (t .named) (t .tables)
+        let at-node = t .at-node in
+        let low = low-lent H (k .two-each) x (nodeOf o) (at-node .below) (t .step .intervals-lent) in
+        let high = high-lent H (k .two-each) x (nodeOf o) (at-node .below) (t .step .intervals-lent) in
+        touched p (at-node .hold) o (at-node .holds) (rw (low, high) at (right-ordered (lentTo x H) (t .step .intervals-right) (nodeOf o) (at-node .below)))
+        (rw (low, high) at (at-node .inside)) own
+        (λ q g ne e. holders-apart (lentTo x H) (s .desk) (t .step .sound) p q (at-node .hold) g (t .step .party-below)
+        (omega (arith, holder-below (s .desk .entries) q g e, k .parties)) ne (at-node .holds) e)
 
-        high : highIn (lentTo x H) (nodeOf o) ≡ highIn H (nodeOf o)
-        high = high-lent H x (nodeOf o) two-each (t .named) (t .tables)
+    -- the n values are lent
+    enough : (x : Step) (l : Lending) (p node : ℕ) → Touch (lentTo x H) (s .desk) p node (lend (s .values) l) → length (s .values) ≤ length (lend (s .values) l)
+    unfolding lentTo
+    enough x l p node t = let e = ltb-false (length (lend (s .values) l)) (H .n) (t .step .own-lent) in omega (arith, k .sized)
 
-    get-kept : (x : Step) (l : Lending) (p node : ℕ) (o : Option ℕ) → (o ≡ none → Touch (lentTo x H) (lend (s .values) l) (s .desk) p node)
+    get-kept : (x : Step) (l : Lending) (p node : ℕ) (o : Option ℕ) → (o ≡ none → Touch (lentTo x H) (s .desk) p node (lend (s .values) l))
         → Onward row notes m (afterGet p node s (getUnless o (s .desk) (getD (lend (s .values) l) node 0)))
     unfolding Onward afterGet noted counted bareEvent bare leaves finds nodeOf IsGet lentTo
     get-kept x l p node (some n) t = k
     get-kept x l p node none t =
-        let g : Touch (lentTo x H) (lend (s .values) l) (s .desk) p node = t refl in
-        let size : length (s .values) ≡ H .n = k .sized in
-        rw (lend-at (s .values) l node (omega (arith, g .named)) (omega (arith, g .enough)))
-        (touch-kept x l p (didGet node tt) g (inl tt))
+        rw (lend-at (s .values) l node (omega (arith, t refl .at-node .below, k .sized)) (enough x l p node (t refl)))
+        (touch-kept x l p (didGet node tt) (t refl) (inl tt))
 
     put-kept : (x : Step) (l : Lending) (p node value : ℕ) (o : Option ℕ)
-        → (o ≡ none → Touch (lentTo x H) (lend (s .values) l) (s .desk) p node × (readsOnly (stageAt (s .desk) p) ≡ false))
+        → (o ≡ none → Touch (lentTo x H) (s .desk) p node (lend (s .values) l) × (readsOnly (stageAt (s .desk) p) ≡ false))
         → Onward row notes m (afterPut p node value s (putUnless o (s .desk) node value (lend (s .values) l)))
     unfolding Onward afterPut noted counted bareEvent bare leaves finds nodeOf IsGet lentTo
     put-kept x l p node value (some n) t = rw (restored-lend (s .values) l) k
     put-kept x l p node value none t =
-        let g : Touch (lentTo x H) (lend (s .values) l) (s .desk) p node = t refl .0 in
-        let size : length (s .values) ≡ H .n = k .sized in
-        let writes : readsOnly (stageAt (s .desk) p) ≡ false = t refl .1 in
-        rw (restored-lend-set (s .values) l node value (omega (arith, g .named, g .enough)))
-        (touch-kept x l p (didPut node value) g (inr (is-writing (g .hold .mode) (rw (g .holds) at writes))))
+        let (f, writes) = t refl in
+        rw (restored-lend-set (s .values) l node value (omega (arith, f .at-node .below, k .sized, enough x l p node f)))
+        (touch-kept x l p (didPut node value) f (inr (is-writing (f .at-node .hold .mode) (rw (f .at-node .holds) at writes))))
 
     call-kept : (x : Step) (c : Call) → Onward row notes m (moveCall (lentTo x H) c s)
     unfolding moveCall enterStep getStep putStep leaveStep
     call-kept x (enter p mode names nameCount) =
         enter-kept p (lockOn (lentTo x H) mode (coverIn (lentTo x H) (take nameCount names))) (enterRefusal (lentTo x H) (s .desk) p names nameCount)
-    call-kept x (get p node l) =
-        get-kept x l p node (refusal (valueChecks (lentTo x H) (s .desk) p node (lend (s .values) l) []))
-        (λ e. touch (lentTo x H) (s .desk) p node (lend (s .values) l) [] (refusal-none (valueChecks (lentTo x H) (s .desk) p node (lend (s .values) l) []) e))
-    call-kept x (put p node value l) = put-kept x l p node value (refusal (valueChecks (lentTo x H) (s .desk) p node (lend (s .values) l) own)) facts
-      where
-        own : List Check
-        own = 17 when readsOnly (stageAt (s .desk) p) ∷ []
-
-        facts : refusal (valueChecks (lentTo x H) (s .desk) p node (lend (s .values) l) own) ≡ none
-            → Touch (lentTo x H) (lend (s .values) l) (s .desk) p node × (readsOnly (stageAt (s .desk) p) ≡ false)
-        facts e =
-            let f = refusal-none (valueChecks (lentTo x H) (s .desk) p node (lend (s .values) l) own) e in
-            (touch (lentTo x H) (s .desk) p node (lend (s .values) l) own f, f .1 .1 .1 .1 .1 .1 .1 .1 .1 .1 .0)
+    call-kept x (get p node l) = get-kept x l p node _ (touch (lentTo x H) (s .desk) p node (lend (s .values) l) [])
+    call-kept x (put p node value l) =
+        let own : List Check = putOwn (s .desk) p in
+        put-kept x l p node value _
+        (λ e. (touch (lentTo x H) (s .desk) p node (lend (s .values) l) own e, refusal-none own (touch-own (lentTo x H) (s .desk) p node (lend (s .values) l) own e) .0))
     call-kept x (leave p list) = leave-kept p list (leaveRefusal (lentTo x H) (s .desk) p list)
 
   run-kept : (xs : List Step) (s : State) (row : List (Transaction (Unit {0}))) (notes : List (Transaction ℕ)) (m : ℕ) → Kept s row notes m
-      → Kept ((run H xs s) .state) (historyFrom row (map bareEvent ((run H xs s) .events))) (historyFrom notes ((run H xs s) .events)) (countedFrom m ((run H xs s) .events))
+      → Kept ((run xs s) .state) (historyFrom row (map bareEvent ((run xs s) .events))) (historyFrom notes ((run xs s) .events)) (countedFrom m ((run xs s) .events))
   unfolding run alsoRan historyFrom countedFrom move
   run-kept [] s row notes m k = k
   run-kept (x ∷ xs) s row notes m k = run-kept xs _ _ _ _ (unfold Onward in call-kept s row notes m k x (x .call))
 
-  start-kept : length u ≡ H .n → Kept (start u) [] [] 0
-  unfolding start serialLeaves serialFinds opsIn
-  start-kept h = record {
+  start-kept : (H : Hierarchy) → length (H .intervals) ≡ 2 * H .n → length u ≡ H .n → Kept (start H u) [] [] 0
+  unfolding serialLeaves serialFinds opsIn
+  start-kept H two h = record {
+    two-each = two;
     sized = h;
     parties = refl;
     values = refl;
@@ -284,13 +284,20 @@ built-two-each H b =
 
 -- THE THEOREM: over a built hierarchy, any list of steps, from a fresh desk and any n values, leaves and answers what the whole visits do,
 -- performed in order of granting from those values
-pub serializable : (H : Hierarchy) → Built H → (values : List ℕ) → length values ≡ H .n → (steps : List Step) → Serial values (run H steps (start values))
+pub serializable : (H : Hierarchy) → Built H → (values : List ℕ) → length values ≡ H .n → (steps : List Step) → Serial values (run steps (start H values))
 unfolding history
 serializable H b values sized steps =
-    let two = built-two-each H b in
-    let k = run-kept H two values steps (start values) [] [] 0 (start-kept H two values sized) in
-    record { leaves = k .values; answers = k .notes; whole = k .whole; order = row-order ((run H steps (start values)) .events) }
+    let k = run-kept values steps (start H values) [] [] 0 (start-kept values H (built-two-each H b) sized) in
+    record { leaves = k .values; answers = k .notes; whole = k .whole; order = row-order ((run steps (start H values)) .events) }
 
 -- demand 3: from n values of zero
-pub demand-3 : (H : Hierarchy) → Built H → (steps : List Step) → Serial (replicate (H .n) 0) (run H steps (start (replicate (H .n) 0)))
+pub demand-3 : (H : Hierarchy) → Built H → (steps : List Step) → Serial (replicate (H .n) 0) (run steps (start H (replicate (H .n) 0)))
 demand-3 H b steps = serializable H b (replicate (H .n) 0) (length-replicate (H .n) 0) steps
+
+-- THE SAME with the hierarchy beside the state
+pub serializable-over : (H : Hierarchy) → Built H → (values : List ℕ) → length values ≡ H .n → (steps : List Step)
+    → SerialOver values (runOver H steps (startOver values))
+serializable-over H b values sized steps = subst (Serial values) (run-over H steps (startOver values)) (serializable H b values sized steps)
+
+pub demand-3-over : (H : Hierarchy) → Built H → (steps : List Step) → SerialOver (replicate (H .n) 0) (runOver H steps (startOver (replicate (H .n) 0)))
+demand-3-over H b steps = serializable-over H b (replicate (H .n) 0) (length-replicate (H .n) 0) steps

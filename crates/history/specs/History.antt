@@ -4,8 +4,9 @@ use mathlib.Core.Bool.{Bool, true, false, _||_}
 use Prim.Native.Nat.{ℕ, suc, _+_}
 use lib.Dec.{eqb}
 use lib.ListN.{length, getD, set}
-use Rattle.intervals.specs.Answer.{Answer, done, refused}
-use Rattle.desk.specs.Steps.{Admission, granted, waits}
+use Rattle.lists.specs.Answer.{Answer, done, refused}
+use Rattle.desk.specs.Steps.{granted, waits}
+use Rattle.runs.specs.Run.{Event, entered, got, stored, left}
 
 -- a get or put that was done. At a get stands a note of type A, which nothing below looks at: with A = Unit nothing is noted,
 -- and that is the paper's book; with A = ℕ each get carries the value that it was answered
@@ -17,13 +18,6 @@ pub data Op (A : Type 0) : Type 0 where
 pub record Transaction (A : Type 0) : Type 0 where
   pub party : ℕ
   pub ops : List (Op A)
-
--- what the book is fed of a step: which it is, the party, the record and number given, and the answer
-pub data Event (A : Type 0) : Type 0 where
-  entered : (party : ℕ) → Answer Admission → Event A
-  got : (party node : ℕ) → Answer A → Event A
-  stored : (party node value : ℕ) → Answer (Unit {0}) → Event A
-  left : (party : ℕ) → (parties : Answer (List ℕ)) → Event A
 
 module _ {A : Type 0} where
   -- a visit of the party, with nothing done

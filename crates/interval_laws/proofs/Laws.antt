@@ -9,19 +9,19 @@ use lib.Dec.{ltb}
 use lib.ListN.{length, getD, take, drop}
 use lib.Seq.{take-append-seam}
 use borrow.Author.Tests.{ltb-false}
-use Rattle.intervals.specs.Lists.{least, greatest, over}
-use Rattle.intervals.specs.Answer.{Answer, done, _when_, answerOf}
-use Rattle.intervals.specs.Hierarchy.{edgesOf, Edge, Reach, reach, hierarchyChecks, Legal}
-use Rattle.intervals.specs.Hierarchy.Reach.{self, step}
+use Rattle.lists.specs.Lists.{least, greatest, over}
+use Rattle.lists.specs.Answer.{Answer, done, _when_, answerOf, roomAfter}
+use Rattle.hierarchy.specs.Hierarchy.{edgesOf, Edge, Reach, reach, hierarchyChecks, Legal}
+use Rattle.hierarchy.specs.Hierarchy.Reach.{self, step}
 use Rattle.intervals.specs.Numbering.{numbering}
 use Rattle.intervals.specs.Intervals.{lowOf, highOf, intervalsFrom, intervalTable}
-use Rattle.intervals.specs.Cover.{lowAt, highAt, callInterval}
-use Rattle.intervals.specs.Build.{buildShort, buildRefusal, placesAfter, buildStep}
-use Rattle.intervals.proofs.Bools.{or-left, or-right, not-both}
-use Rattle.intervals.proofs.Refusals.{refused-later, refusal-none}
-use Rattle.intervals.proofs.Members.{In, head, tail, in-nil, in-cons, least-most, least-is, greatest-least, greatest-is}
-use Rattle.intervals.proofs.Reaches.{reach-all, reach-only, reach-within}
-use Rattle.intervals.proofs.Legals.{Promise, promised}
+use Rattle.covers.specs.Cover.{lowAt, highAt, callInterval}
+use Rattle.intervals.specs.Build.{buildShort, buildRefusal, buildStep}
+use Rattle.lists.proofs.Bools.{or-left, or-right, not-both}
+use Rattle.lists.proofs.Refusals.{refused-later, refusal-none}
+use Rattle.lists.proofs.Members.{In, head, tail, in-nil, in-cons, least-most, least-is, greatest-least, greatest-is}
+use Rattle.hierarchy.proofs.Reaches.{reach-all, reach-only, reach-within}
+use Rattle.hierarchy.proofs.Legals.{Promise, promised}
 use Rattle.intervals.proofs.Extremes.{reach-numbered as numbered-in, low-most as least-low, low-is as least-is-low, high-least as greatest-high, high-is as greatest-is-high}
 use Rattle.interval_laws.proofs.Numbers.{numbering-most, numbering-once}
 
@@ -102,7 +102,8 @@ name-once table r names i =
     let j = in-map (highAt table) r names i in
     let a : greatest hs ≤ greatest (highAt table r ∷ hs) = greatest-is (λ k. k ≤ greatest (highAt table r ∷ hs)) (highAt table r) hs j (λ y m. greatest-least y (highAt table r ∷ hs) (tail m)) in
     let b : greatest (highAt table r ∷ hs) ≤ greatest hs
-    = greatest-is (λ k. k ≤ greatest hs) (highAt table r) (highAt table r ∷ hs) head (λ y m. in-cons m (λ e. subst (λ (k : ℕ). k ≤ greatest hs) e (greatest-least (highAt table r) hs j)) (greatest-least y hs)) in
+    = greatest-is (λ k. k ≤ greatest hs) (highAt table r) (highAt table r ∷ hs) head
+    (λ y m. in-cons m (λ e. subst (λ (k : ℕ). k ≤ greatest hs) e (greatest-least (highAt table r) hs j)) (greatest-least y hs)) in
     omega arith in
     rw (low, high)
 
@@ -211,7 +212,7 @@ taken n edges edgeCount places scratch e =
           (or-right (ltb (length places) (2 * n)) (ltb (length edges) (2 * edgeCount))
           (or-left (ltb (length places) (2 * n) || ltb (length edges) (2 * edgeCount)) (ltb (length scratch) 2048) short));
       wrote =
-          ap (λ (r : Option ℕ). take (2 * n) (placesAfter r table places)) o
+          ap (λ (r : Option ℕ). take (2 * n) (roomAfter r table places)) o
           ∙ ap (λ (k : ℕ). take k (table ++ drop (length table) places)) (sym (built-length n (edgesOf edges edgeCount)))
           ∙ take-append-seam table (drop (length table) places);
     }

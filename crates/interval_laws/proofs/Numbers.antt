@@ -1,18 +1,18 @@
 -- How many numbers a walk gives: no node has two, no two nodes have the same, and each number is at most the count of the nodes. Assumes nothing.
 use mathlib.Core.Path.{_≡_, refl, sym, ap, _∙_}
 use mathlib.Core.List.{List, [], _∷_}
-use mathlib.Core.Bool.{Bool, true, false}
 use Prim.Native.Nat.{ℕ, zero, suc, _+_, _≤_, _<_}
 use native.Mathlib.Omega.{arith}
 use lib.Dec.{eqb}
 use lib.ListN.{length, getD, set, replicate, length-set, length-replicate}
 use lib.Seq.{getD-set-same, getD-set-other}
 use borrow.Author.Tests.{eqb-true, eqb-false}
-use Rattle.intervals.specs.Inner.{zeros}
-use Rattle.intervals.specs.Hierarchy.{children}
+use Rattle.lists.specs.Lists.{zeros}
+use Rattle.hierarchy.specs.Hierarchy.{children}
 use Rattle.intervals.specs.Numbering.{Walk, at, marked, numbered, meet, visit, inside, walk, numbering}
-use Rattle.intervals.proofs.Bools.{bool}
-use Rattle.intervals.proofs.Marks.{getD-any, zeros-fall, zeros-replicate, set-get, within, zero-at}
+use Rattle.lists.proofs.Bools.{bool}
+use Rattle.lists.proofs.Marks.{zeros-fall, zeros-replicate, set-get, within, zero-at}
+use Rattle.lists.proofs.Loops.{getD-any}
 
 -- next numbers were given, an unseen node has none, and each is below the next
 pub record Counts (n : ℕ) (s : Walk) : Type 0 where

@@ -8,14 +8,13 @@ use native.Mathlib.Omega.{arith}
 use lib.ListN.{length, take, drop, replicate, length-replicate}
 use lib.Seq.{length-take-le, drop-append-add, drop-drop}
 use borrow.Author.Tests.{lt-ltb, le-ltb}
-use Rattle.intervals.specs.Lists.{over}
-use Rattle.intervals.specs.Answer.{done, refused, Check, _when_, refusal}
-use Rattle.intervals.specs.Hierarchy.{edgesOf, hierarchyChecks, Legal}
+use Rattle.lists.specs.Lists.{over}
+use Rattle.lists.specs.Answer.{done, refused, Check, _when_, refusal, numberOf}
+use Rattle.hierarchy.specs.Hierarchy.{edgesOf, hierarchyChecks, Legal}
 use Rattle.intervals.specs.Intervals.{intervalTable}
 use Rattle.intervals.specs.Build.{buildShort, buildStep}
-use Rattle.intervals.specs.Inner.{numberOf}
-use Rattle.intervals.proofs.Bools.{bool}
-use Rattle.intervals.proofs.Refusals.{refused-here, refused-later}
+use Rattle.lists.proofs.Bools.{bool}
+use Rattle.lists.proofs.Refusals.{refused-here, refused-later}
 
 -- ---- parts that came back
 

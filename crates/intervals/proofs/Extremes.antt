@@ -4,13 +4,14 @@ use mathlib.Core.List.{List}
 use Prim.Native.Nat.{ℕ, _≤_, _<_}
 use native.Mathlib.Omega.{arith}
 use lib.ListN.{length, getD}
-use Rattle.intervals.specs.Hierarchy.{Edge, Reach, reach}
+use Rattle.hierarchy.specs.Hierarchy.{Edge, Reach, reach}
 use Rattle.intervals.specs.Numbering.{numbering}
 use Rattle.intervals.specs.Intervals.{numbersAmong, lowOf, highOf}
-use Rattle.intervals.proofs.Members.{In, least-most, least-is, greatest-least, greatest-is, among-in, among-from}
-use Rattle.intervals.proofs.Reaches.{reach-all, reach-only}
+use Rattle.lists.proofs.Members.{In, least-most, least-is, greatest-least, greatest-is}
+use Rattle.intervals.proofs.Among.{among-in, among-from}
+use Rattle.hierarchy.proofs.Reaches.{reach-all, reach-only}
 use Rattle.intervals.proofs.Found.{reached-found, from-root}
-use Rattle.intervals.proofs.Legals.{Promise}
+use Rattle.hierarchy.proofs.Legals.{Promise}
 
 module _ (n : ℕ) (es : List ℕ) (promise : Promise n es) where
   ends : (p c : ℕ) → Edge es p c → c < n

@@ -1,4 +1,4 @@
--- The walk sees just the nodes that the root reaches, and each of them reaches a numbered node. Assumes nothing.
+-- The walk sees the nodes that the root reaches, and each of them reaches a numbered node. Assumes nothing.
 use mathlib.Core.Path.{_≡_, sym, ap, _∙_, subst}
 use mathlib.Core.List.{List, [], _∷_}
 use Prim.Native.Nat.{ℕ, zero, suc, _+_, _≤_, _<_}
@@ -7,15 +7,15 @@ use lib.Dec.{eqb}
 use lib.ListN.{length, getD, set, replicate, length-set, length-replicate}
 use lib.Seq.{getD-set-same, getD-set-other}
 use borrow.Author.Tests.{eqb-true, eqb-false}
-use Rattle.intervals.specs.Lists.{any}
-use Rattle.intervals.specs.Inner.{zeros, lastMarks}
-use Rattle.intervals.specs.Hierarchy.{children, Edge, Reach, reach, someUnreached}
-use Rattle.intervals.specs.Hierarchy.Reach.{self, step}
+use Rattle.lists.specs.Lists.{zeros}
+use Rattle.hierarchy.specs.Hierarchy.{children, Edge, Reach}
+use Rattle.hierarchy.specs.Hierarchy.Reach.{self, step}
 use Rattle.intervals.specs.Numbering.{Walk, at, marked, numbered, meet, visit, inside, walk}
-use Rattle.intervals.proofs.Bools.{bool}
-use Rattle.intervals.proofs.Reaches.{On, onto, reach-all, reach-only, reach-long, same-zeros}
-use Rattle.intervals.proofs.Members.{In, head, tail, in-nil, in-cons, child-of, edge-of}
-use Rattle.intervals.proofs.Marks.{getD-any, zeros-set, opened, zeros-replicate, set-get, zero-at}
+use Rattle.lists.proofs.Bools.{bool}
+use Rattle.lists.proofs.Members.{In, head, tail, in-nil, in-cons}
+use Rattle.hierarchy.proofs.EdgeLoops.{child-of, edge-of}
+use Rattle.lists.proofs.Marks.{zeros-set, opened, zeros-replicate, set-get, zero-at}
+use Rattle.lists.proofs.Loops.{getD-any}
 
 -- r reaches a node that has a number
 pub record Found (es : List ℕ) (s : Walk) (r : ℕ) : Type 0 where
@@ -31,17 +31,12 @@ Good es s = (i : ℕ) → 2 ≤ getD (s .marks) i 0 → Found es s i
 abbrev pub Shut : List ℕ → Walk → Type 0
 Shut es s = (i c : ℕ) → 2 ≤ getD (s .marks) i 0 → Edge es i c → 1 ≤ getD (s .marks) c 2
 
--- each seen node is reached from the root
-abbrev pub Only : List ℕ → Walk → Type 0
-Only es s = (i : ℕ) → 1 ≤ getD (s .marks) i 0 → Reach es 0 i
-
 pub record Whole (es : List ℕ) (n : ℕ) (s : Walk) : Type 0 where
   pub some : 1 ≤ s .next
   pub marks-long : length (s .marks) ≡ n
   pub numbers-long : length (s .numbers) ≡ n
   pub good : Good es s
   pub shut : Shut es s
-  pub only : Only es s
 
 pub record Onward (es : List ℕ) (n : ℕ) (s s′ : Walk) : Type 0 where
   pub whole : Whole es n s′
@@ -78,7 +73,6 @@ module _ (es : List ℕ) (n : ℕ) where
               numbers-long = length-set (s .numbers) c (s .next) ∙ w .numbers-long;
               good = λ i h. found-grow s (numbered c s) i g (w .good i h);
               shut = w .shut;
-              only = w .only;
             };
         fewer = omega arith;
         grow = g;
@@ -90,9 +84,9 @@ module _ (es : List ℕ) (n : ℕ) where
   found-self c s w h =
       record { leaf = c; way = self; has = rw (getD-set-same (s .numbers) c (s .next) 0 (omega (arith, w .numbers-long))) (w .some) }
 
-  -- a walk into an unseen node that the root reaches, where at most b nodes are unseen, closes it
+  -- a walk into an unseen node, where at most b nodes are unseen, closes it
   abbrev Settles : ℕ → (ℕ → Walk → Walk) → Type 0
-  Settles b into = (c : ℕ) (s : Walk) → Whole es n s → c < n → Reach es 0 c → getD (s .marks) c 0 ≡ 0 → zeros (s .marks) ≤ b → Onward es n s (into c s) × (2 ≤ getD (into c s .marks) c 0)
+  Settles b into = (c : ℕ) (s : Walk) → Whole es n s → c < n → getD (s .marks) c 0 ≡ 0 → zeros (s .marks) ≤ b → Onward es n s (into c s) × (2 ≤ getD (into c s .marks) c 0)
 
   -- c was met: it is seen, and reaches a numbered node
   abbrev Met : Walk → ℕ → Type 0
@@ -102,14 +96,14 @@ module _ (es : List ℕ) (n : ℕ) where
   met-on s t c o m = (o .seen c (m .0), found-grow s t c (o .grow) (m .1))
 
   module _ (b : ℕ) (into : ℕ → Walk → Walk) (k : Settles b into) where
-    on-meet : (c : ℕ) (s : Walk) → Whole es n s → c < n → Reach es 0 c → zeros (s .marks) ≤ b → Onward es n s (meet into c s) × Met (meet into c s) c
+    on-meet : (c : ℕ) (s : Walk) → Whole es n s → c < n → zeros (s .marks) ≤ b → Onward es n s (meet into c s) × Met (meet into c s) c
     unfolding meet
-    on-meet c s w h way z =
+    on-meet c s w h z =
         let m : getD (s .marks) c 2 ≡ getD (s .marks) c 0 = getD-any (s .marks) c 2 0 (omega (arith, w .marks-long)) in
         let a : getD (s .numbers) c 1 ≡ getD (s .numbers) c 0 = getD-any (s .numbers) c 1 0 (omega (arith, w .numbers-long)) in
         bool (eqb (getD (s .marks) c 2) 0)
         (λ e. rw e
-        (let q = k c s w h way (sym m ∙ eqb-true _ _ e) z in
+        (let q = k c s w h (sym m ∙ eqb-true _ _ e) z in
         (q .0, (omega (arith, q .1, getD-any (into c s .marks) c 2 0 (omega (arith, q .0 .whole .marks-long))), q .0 .whole .good c (q .1)))))
         (λ e. rw e
         (let u : getD (s .marks) c 2 ≡ 0 → ⊥ = eqb-false _ _ e in
@@ -122,27 +116,20 @@ module _ (es : List ℕ) (n : ℕ) where
         (λ e. rw e
         (let v : getD (s .marks) c 2 ≡ 1 → ⊥ = eqb-false _ _ e in (on-refl s w, (omega (arith, u), w .good c (omega (arith, m, u, v))))))))
 
-    on-visit : (cs : List ℕ) (s : Walk) → Whole es n s → ((c : ℕ) → In c cs → (c < n) × Reach es 0 c) → zeros (s .marks) ≤ b
+    on-visit : (cs : List ℕ) (s : Walk) → Whole es n s → ((c : ℕ) → In c cs → c < n) → zeros (s .marks) ≤ b
         → Onward es n s (visit into cs s) × ((c : ℕ) → In c cs → Met (visit into cs s) c)
     unfolding visit
     on-visit [] s w h z = (on-refl s w, λ c i. in-nil i)
     on-visit (c ∷ cs) s w h z =
-        let m = on-meet c s w (h c head .0) (h c head .1) z in
+        let m = on-meet c s w (h c head) z in
         let v = on-visit cs (meet into c s) (m .0 .whole) (λ d i. h d (tail i)) (omega (arith, m .0 .fewer)) in (
           on-trans s (meet into c s) (visit into cs (meet into c s)) (m .0) (v .0),
           λ d i. in-cons i (λ q. subst (λ (x : ℕ). Met (visit into cs (meet into c s)) x) q (met-on (meet into c s) (visit into cs (meet into c s)) c (v .0) (m .1))) (v .1 d),
         )
 
-  -- a mark more, of a node that the root reaches
-  seen-only : (r mark i : ℕ) (marks : List ℕ) → Reach es 0 r → (1 ≤ getD marks i 0 → Reach es 0 i) → 1 ≤ getD (set marks r mark) i 0 → Reach es 0 i
-  seen-only r mark i marks way f g =
-      bool (eqb i r)
-      (λ e. subst (λ (x : ℕ). Reach es 0 x) (sym (eqb-true i r e)) way)
-      (λ e. f (omega (arith, g, getD-set-other marks r i mark 0 (eqb-false i r e))))
-
   -- r is opened
-  opened-whole : (r : ℕ) (s : Walk) → Whole es n s → getD (s .marks) r 0 ≡ 0 → r < n → Reach es 0 r → Whole es n (marked r 1 s)
-  opened-whole r s w u h way =
+  opened-whole : (r : ℕ) (s : Walk) → Whole es n s → getD (s .marks) r 0 ≡ 0 → r < n → Whole es n (marked r 1 s)
+  opened-whole r s w u h =
       let low : (i : ℕ) → 2 ≤ getD (set (s .marks) r 1) i 0 → 2 ≤ getD (s .marks) i 0
       = λ i g. set-get (λ (v : ℕ). 2 ≤ v → 2 ≤ getD (s .marks) i 0) (s .marks) r 1 i 0 (λ a. absurd (omega arith)) (λ a. a) g in
       record {
@@ -151,13 +138,12 @@ module _ (es : List ℕ) (n : ℕ) where
         numbers-long = w .numbers-long;
         good = λ i g. found-grow s (marked r 1 s) i (λ x a. a) (w .good i (low i g));
         shut = λ i c g e. set-get (λ (v : ℕ). 1 ≤ v) (s .marks) r 1 c 2 (omega arith) (w .shut i c (low i g) e);
-        only = λ i g. seen-only r 1 i (s .marks) way (w .only i) g;
       }
 
   -- r is closed, once its children are seen and it reaches a numbered node
-  on-close : (r : ℕ) (s t : Walk) → r < n → Reach es 0 r → getD (s .marks) r 0 ≡ 0 → length (s .marks) ≡ n → Onward es n (marked r 1 s) t → ((c : ℕ) → Edge es r c → 1 ≤ getD (t .marks) c 2) → Found es t r
+  on-close : (r : ℕ) (s t : Walk) → r < n → getD (s .marks) r 0 ≡ 0 → length (s .marks) ≡ n → Onward es n (marked r 1 s) t → ((c : ℕ) → Edge es r c → 1 ≤ getD (t .marks) c 2) → Found es t r
       → Onward es n s (marked r 2 t) × (2 ≤ getD (set (t .marks) r 2) r 0)
-  on-close r s t h way u l o kids f =
+  on-close r s t h u l o kids f =
       let z = opened (s .marks) r (omega (arith, l)) u in
       let here : getD (set (t .marks) r 2) r 0 ≡ 2 = getD-set-same (t .marks) r 2 0 (omega (arith, o .whole .marks-long)) in
       let other : (i : ℕ) → (i ≡ r → ⊥) → getD (set (t .marks) r 2) i 0 ≡ getD (t .marks) i 0 = λ i d. getD-set-other (t .marks) r i 2 0 d in
@@ -178,7 +164,6 @@ module _ (es : List ℕ) (n : ℕ) where
                     (bool (eqb i r)
                     (λ q. kids c (subst (λ (x : ℕ). Edge es x c) (eqb-true i r q) e))
                     (λ q. o .whole .shut i c (omega (arith, g, other i (eqb-false i r q))) e));
-                only = λ i g. seen-only r 2 i (t .marks) way (o .whole .only i) g;
               };
           fewer = omega (arith, z, o .fewer, zeros-set (t .marks) r 2 (omega arith));
           grow = o .grow;
@@ -194,24 +179,24 @@ module _ (es : List ℕ) (n : ℕ) where
   module _ (ends : (p c : ℕ) → Edge es p c → c < n) where
     on-inside : (b : ℕ) (into : ℕ → Walk → Walk) → Settles b into → (r : ℕ) (cs : List ℕ) (s : Walk)
         → ((c : ℕ) → In c cs → Edge es r c) → ((c : ℕ) → Edge es r c → In c cs)
-        → Whole es n s → r < n → Reach es 0 r → getD (s .marks) r 0 ≡ 0 → zeros (s .marks) ≤ b + 1
+        → Whole es n s → r < n → getD (s .marks) r 0 ≡ 0 → zeros (s .marks) ≤ b + 1
         → Onward es n s (marked r 2 (inside into r cs (marked r 1 s))) × (2 ≤ getD (marked r 2 (inside into r cs (marked r 1 s)) .marks) r 0)
     unfolding inside
-    on-inside b into k r [] s f g w h way u z =
-        let o = opened-whole r s w u h way in
-        on-close r s (numbered r (marked r 1 s)) h way u (w .marks-long) (on-numbered r (marked r 1 s) o) (λ c e. in-nil (g c e)) (found-self r (marked r 1 s) o h)
-    on-inside b into k r (c ∷ cs) s f g w h way u z =
-        let o = opened-whole r s w u h way in
+    on-inside b into k r [] s f g w h u z =
+        let o = opened-whole r s w u h in
+        on-close r s (numbered r (marked r 1 s)) h u (w .marks-long) (on-numbered r (marked r 1 s) o) (λ c e. in-nil (g c e)) (found-self r (marked r 1 s) o h)
+    on-inside b into k r (c ∷ cs) s f g w h u z =
+        let o = opened-whole r s w u h in
         let q = opened (s .marks) r (omega (arith, w .marks-long)) u in
-        let v = on-visit b into k (c ∷ cs) (marked r 1 s) o (λ d i. (ends r d (f d i), onto way (step (f d i) self))) (omega (arith, q)) in
+        let v = on-visit b into k (c ∷ cs) (marked r 1 s) o (λ d i. ends r d (f d i)) (omega (arith, q)) in
         let m = v .1 c head .1 in
-        on-close r s (visit into (c ∷ cs) (marked r 1 s)) h way u (w .marks-long) (v .0) (λ d e. v .1 d (g d e) .0)
+        on-close r s (visit into (c ∷ cs) (marked r 1 s)) h u (w .marks-long) (v .0) (λ d e. v .1 d (g d e) .0)
         (record { leaf = m .leaf; way = step (f c head) (m .way); has = m .has })
 
     pub on-walk : (k : ℕ) → Settles k (walk k es)
     unfolding walk
-    on-walk zero r s w h way u z = absurd (let q = opened (s .marks) r (omega (arith, w .marks-long)) u in omega (arith, q))
-    on-walk (suc k) r s w h way u z = on-inside k (walk k es) (on-walk k) r (children es r) s (edge-of es r) (λ c e. child-of e) w h way u (omega arith)
+    on-walk zero r s w h u z = absurd (let q = opened (s .marks) r (omega (arith, w .marks-long)) u in omega (arith, q))
+    on-walk (suc k) r s w h u z = on-inside k (walk k es) (on-walk k) r (children es r) s (edge-of es r) (λ c e. child-of e) w h u (omega arith)
 
     -- the walk of node 0, of n fresh nodes
     abbrev fresh : Walk
@@ -225,12 +210,11 @@ module _ (es : List ℕ) (n : ℕ) where
           numbers-long = length-replicate n 0;
           good = λ i h. absurd (omega (arith, h, zero-at n i));
           shut = λ i c h e. absurd (omega (arith, h, zero-at n i));
-          only = λ i h. absurd (omega (arith, h, zero-at n i));
         }
 
     module _ (some : 1 ≤ n) where
       pub from-root : Onward es n fresh (walk n es 0 fresh) × (2 ≤ getD (walk n es 0 fresh .marks) 0 0)
-      from-root = on-walk n 0 fresh fresh-whole some self (zero-at n 0) (omega (arith, zeros-replicate n))
+      from-root = on-walk n 0 fresh fresh-whole some (zero-at n 0) (omega (arith, zeros-replicate n))
 
       -- a seen node is closed in the end, so a closed node's children are closed
       shut-in : (i c : ℕ) → 2 ≤ getD (walk n es 0 fresh .marks) i 0 → Edge es i c → 2 ≤ getD (walk n es 0 fresh .marks) c 0
@@ -249,20 +233,3 @@ module _ (es : List ℕ) (n : ℕ) where
       -- each node that the root reaches reaches a numbered node
       pub reached-found : (x : ℕ) → Reach es 0 x → Found es (walk n es 0 fresh) x
       reached-found x w = from-root .0 .whole .good x (closed-on w (from-root .1))
-
-      -- the nodes that are seen in the end are those that the root reaches
-      last-long : length (lastMarks n es) ≡ n
-      unfolding lastMarks
-      last-long = from-root .0 .whole .marks-long
-
-      seen-reached : (x : ℕ) → 1 ≤ getD (lastMarks n es) x 0 → On (reach n es 0) x
-      unfolding lastMarks
-      seen-reached x h = reach-all es n ends 0 x some (from-root .0 .whole .only x h)
-
-      reached-seen : (x : ℕ) → On (reach n es 0) x → 1 ≤ getD (lastMarks n es) x 0
-      unfolding lastMarks
-      reached-seen x h = omega (arith, closed-on (reach-only es n ends 0 x h) (from-root .1))
-
-      pub unseen-unreached : any (eqb 0) (lastMarks n es) ≡ someUnreached n es
-      unfolding someUnreached
-      unseen-unreached = same-zeros (lastMarks n es) (reach n es 0) (last-long ∙ sym (reach-long n es 0)) seen-reached reached-seen

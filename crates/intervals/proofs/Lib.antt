@@ -1,19 +1,6 @@
 -- What the proofs of several functions, and of the layers above, use.
-pub mod Bools
-pub mod Refusals
-pub mod Members
-pub mod Marks
-pub mod Reaches
+pub mod Among
 pub mod Found
-pub mod Legals
-pub mod Loops
-pub mod Bounded
-pub mod Covers
-pub mod Distinct
-pub mod EdgeLoops
-pub mod Repeats
-pub mod Passes
-pub mod Judges
 pub mod Walks
 pub mod Doubles
 pub mod Relaxes

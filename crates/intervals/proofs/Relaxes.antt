@@ -8,12 +8,12 @@ use lib.Dec.{eqb}
 use lib.ListN.{length, getD, set, length-set}
 use lib.Seq.{getD-set-other}
 use borrow.Author.Tests.{eqb-true, eqb-false, ltb-true, ltb-false, le-ltb}
-use Rattle.intervals.specs.Hierarchy.{Edge, Reach}
-use Rattle.intervals.specs.Hierarchy.Reach.{self, step}
+use Rattle.hierarchy.specs.Hierarchy.{Edge, Reach}
+use Rattle.hierarchy.specs.Hierarchy.Reach.{self, step}
 use Rattle.intervals.specs.Inner.{isBetter, improved, Ok, From, Kept, Settled, Best, weight}
-use Rattle.intervals.proofs.Bools.{bool}
-use Rattle.intervals.proofs.Marks.{set-get}
-use Rattle.intervals.proofs.Reaches.{onto}
+use Rattle.lists.proofs.Bools.{bool}
+use Rattle.lists.proofs.Marks.{set-get}
+use Rattle.hierarchy.proofs.Reaches.{onto}
 
 -- ---- the order
 

@@ -7,13 +7,14 @@ use native.Mathlib.Omega.{arith}
 use lib.Dec.{eqb}
 use lib.ListN.{length, getD, set}
 use borrow.Author.Tests.{eqb-true, eqb-false}
-use Rattle.intervals.specs.Lists.{Below}
-use Rattle.intervals.specs.Hierarchy.{Edge, edgesOf}
-use Rattle.intervals.specs.Inner.{endsAt, Edges, Went, isBetter, setIf, improved, turnAt, Ok, Kept, Settled, Best, lows, highs, tableWeight}
-use Rattle.intervals.specs.declared.Ends.{Ends}
-use Rattle.intervals.proofs.Bools.{bool, not-both, or-left, or-right}
-use Rattle.intervals.proofs.EdgeLoops.{edges-all, edge-here, turn}
-use Rattle.intervals.proofs.Passes.{went-most}
+use Rattle.lists.specs.Lists.{Below, Went}
+use Rattle.hierarchy.specs.Hierarchy.{Edge, edgesOf}
+use Rattle.hierarchy.specs.Inner.{endsAt, Edges}
+use Rattle.intervals.specs.Inner.{isBetter, setIf, improved, turnAt, Ok, Kept, Settled, Best, lows, highs, tableWeight}
+use Rattle.hierarchy.specs.declared.Ends.{Ends}
+use Rattle.lists.proofs.Bools.{bool, not-both, or-left, or-right}
+use Rattle.hierarchy.proofs.EdgeLoops.{edges-all, edge-here, turn}
+use Rattle.lists.proofs.Passes.{went-most}
 use Rattle.intervals.proofs.Relaxes.{kept-start, kept-trans, kept-one, still-best, weight-set}
 
 -- ---- the lows and the highs of a table

@@ -7,13 +7,16 @@ use native.Mathlib.Omega.{arith}
 use lib.Dec.{eqb}
 use lib.ListN.{length, getD, set, replicate, length-set, length-replicate}
 use borrow.Author.Tests.{eqb-true, eq-eqb, ne-eqb}
-use Rattle.intervals.specs.Hierarchy.{edgesOf, children}
+use Rattle.hierarchy.specs.Hierarchy.{edgesOf, children}
 use Rattle.intervals.specs.Numbering.{Walk, at, marked, numbered, meet, visit, inside, walk, numbering}
-use Rattle.intervals.specs.Inner.{zeros, endsAt, Edges, Ready, Fresh, lastMarks}
-use Rattle.intervals.specs.declared.Ends.{Ends}
-use Rattle.intervals.proofs.Bools.{bool}
-use Rattle.intervals.proofs.Marks.{getD-any, zeros-set, zeros-fall, zeros-replicate, zero-at}
-use Rattle.intervals.proofs.EdgeLoops.{rest, rest-other, rest-child, end-children, turn, child-below}
+use Rattle.lists.specs.Lists.{zeros}
+use Rattle.hierarchy.specs.Inner.{endsAt, Edges}
+use Rattle.intervals.specs.Inner.{Ready, Fresh}
+use Rattle.hierarchy.specs.declared.Ends.{Ends}
+use Rattle.lists.proofs.Bools.{bool}
+use Rattle.lists.proofs.Marks.{zeros-set, zeros-fall, zeros-replicate, zero-at}
+use Rattle.lists.proofs.Loops.{getD-any}
+use Rattle.hierarchy.proofs.EdgeLoops.{rest, rest-other, rest-child, end-children, turn, child-below}
 
 -- what holds of the walk s′ that s has become: the tables keep their lengths, seen stays seen, and the counter stays within what was left to number
 pub record After (s s′ : Walk) : Type 0 where
@@ -169,7 +172,8 @@ module _ (n count : ℕ) (edges : List ℕ) (fits : Edges n count edges) (node :
             after = l .after;
             same = λ k h.
                 ap (λ (cs : List ℕ). finish (walk k (edgesOf edges count)) node cs leaf s)
-                (ap (λ (e : ℕ). children (rest edges count e) node) (sym next) ∙ sym (rest-other edges count (count - left) (turn n count edges fits (count - left) here) node (λ p. d (is-parent ∙ p))))
+                (ap (λ (e : ℕ). children (rest edges count e) node) (sym next) ∙ sym
+                (rest-other edges count (count - left) (turn n count edges fits (count - left) here) node (λ p. d (is-parent ∙ p))))
                 ∙ l .same k h;
           }
 
@@ -230,8 +234,6 @@ module _ (n count : ℕ) (edges numbers₀ marks numbers : List ℕ) (f : Fresh 
       }
 
   pub fresh-end : (t : Walk) → ((k : ℕ) → zeros marks ≤ k → t ≡ walk k (edgesOf edges count) 0 (at 1 marks numbers))
-      → (t .marks ≡ lastMarks n (edgesOf edges count)) × (t .numbers ≡ numbering n (edgesOf edges count))
-  unfolding lastMarks numbering
-  fresh-end t q =
-      let e = q n (omega (arith, unseen)) in
-      (ap (λ (w : Walk). w .marks) e ∙ rw (m, unnumbered) refl, ap (λ (w : Walk). w .numbers) e ∙ rw (m, unnumbered) refl)
+      → t .numbers ≡ numbering n (edgesOf edges count)
+  unfolding numbering
+  fresh-end t q = ap (λ (w : Walk). w .numbers) (q n (omega (arith, unseen))) ∙ rw (m, unnumbered) refl

@@ -7,14 +7,15 @@ use native.Mathlib.Omega.{arith}
 use lib.Dec.{eqb}
 use lib.ListN.{length, getD}
 use borrow.Author.Tests.{eqb-true, eqb-false, ne-eqb, ltb-false}
-use Rattle.intervals.specs.Lists.{Below}
-use Rattle.intervals.specs.Hierarchy.{Reach, Legal}
+use Rattle.lists.specs.Lists.{Below}
+use Rattle.hierarchy.specs.Hierarchy.{Reach, Legal}
 use Rattle.intervals.specs.Numbering.{numbering}
 use Rattle.intervals.specs.Intervals.{lowOf, highOf, intervalsFrom, intervalTable}
-use Rattle.intervals.specs.Inner.{Edges, Best, lows, highs, orMost, doubled}
-use Rattle.intervals.proofs.Bools.{bool}
-use Rattle.intervals.proofs.Reaches.{reach-within}
-use Rattle.intervals.proofs.Legals.{Promise, promised}
+use Rattle.hierarchy.specs.Inner.{Edges}
+use Rattle.intervals.specs.Inner.{Best, lows, highs, orMost, doubled}
+use Rattle.lists.proofs.Bools.{bool}
+use Rattle.hierarchy.proofs.Reaches.{reach-within}
+use Rattle.hierarchy.proofs.Legals.{Promise, promised}
 use Rattle.intervals.proofs.Extremes.{numbering-long, low-most, low-is, high-least, high-is}
 use Rattle.intervals.proofs.Tables.{lows-long, lows-at, highs-at}
 

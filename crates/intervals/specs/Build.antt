@@ -1,13 +1,13 @@
 -- Building: what it answers, and what it leaves in the interval places and in the scratch that it is lent. Assumes nothing.
-use mathlib.Core.List.{List, [], _∷_}
+use mathlib.Core.List.{List, _∷_}
 use mathlib.Core.Bool.{Bool, true, false, _||_}
-use mathlib.Core.Option.{Option, none, some}
+use mathlib.Core.Option.{Option}
 use Prim.Native.Nat.{ℕ, _*_}
 use lib.Dec.{ltb}
 use lib.ListN.{length, replicate}
-use Rattle.intervals.specs.Lists.{over}
-use Rattle.intervals.specs.Answer.{Answer, done, refused, Check, _when_, refusal, answerOf}
-use Rattle.intervals.specs.Hierarchy.{edgesOf, hierarchyChecks}
+use Rattle.lists.specs.Lists.{over}
+use Rattle.lists.specs.Answer.{Answer, done, refused, _when_, refusal, answerOf, roomAfter}
+use Rattle.hierarchy.specs.Hierarchy.{edgesOf, hierarchyChecks}
 use Rattle.intervals.specs.Intervals.{intervalTable}
 use Rattle.intervals.specs.declared.BuildAnswer.{BuildAnswer}
 use Rattle.intervals.specs.declared.BuildAnswer.the-variants.{Built, Refused}
@@ -28,11 +28,6 @@ abbrev pub buildRefusal : ℕ → List ℕ → ℕ → List ℕ → List ℕ →
 buildRefusal n edges edgeCount places scratch =
     refusal (1 when buildShort n edges edgeCount places scratch ∷ hierarchyChecks n edges edgeCount)
 
--- low and high in turn for each node; a refusal changes nothing
-abbrev pub placesAfter : Option ℕ → List ℕ → List ℕ → List ℕ
-placesAfter none table places = over table places
-placesAfter (some k) table places = places
-
 -- scratch is unchanged after refusal 1; after any other end, refused or not, its first 2,048 bytes are zero
 abbrev pub scratchAfter : (short : Bool) → List ℕ → List ℕ
 scratchAfter true scratch = scratch
@@ -43,7 +38,7 @@ unfoldable pub buildStep : ℕ → List ℕ → ℕ → List ℕ → List ℕ �
 buildStep n edges edgeCount places scratch =
     record {
       answer = answerOf (buildRefusal n edges edgeCount places scratch) tt;
-      places = placesAfter (buildRefusal n edges edgeCount places scratch) (intervalTable n (edgesOf edges edgeCount)) places;
+      places = roomAfter (buildRefusal n edges edgeCount places scratch) (intervalTable n (edgesOf edges edgeCount)) places;
       scratch = scratchAfter (buildShort n edges edgeCount places scratch) scratch;
     }
 

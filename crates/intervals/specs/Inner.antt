@@ -1,49 +1,14 @@
 -- Terms of the contracts of private functions only: no definition of the paper is here. Assumes nothing.
 use mathlib.Core.Path.{_≡_}
 use mathlib.Core.List.{List, [], _∷_}
-use mathlib.Core.Bool.{Bool, true, false, _||_}
-use mathlib.Core.Option.{Option, none, some}
-use Prim.Native.Nat.{ℕ, suc, _+_, _-_, _*_, _<_, _≤_}
+use mathlib.Core.Bool.{Bool, true, false}
+use Prim.Native.Nat.{ℕ, _+_, _-_, _*_, _<_, _≤_}
 use lib.Dec.{eqb, ltb}
-use lib.ListN.{length, getD, set, take, replicate}
-use Rattle.intervals.specs.Lists.{any}
-use Rattle.intervals.specs.Hierarchy.{Edge, Reach, edgesOf, Legal}
-use Rattle.intervals.specs.Numbering.{at, walk, numbering}
-use Rattle.intervals.specs.declared.Ends.{Ends}
-
--- one more where the test holds
-abbrev pub oneIf : Bool → ℕ → ℕ
-oneIf true n = suc n
-oneIf false n = n
-
--- how many 0 there are: of marks, the unseen nodes; of numbers, those without one
-unfoldable pub zeros : List ℕ → ℕ
-zeros [] = 0
-zeros (x ∷ xs) = oneIf (eqb x 0) (zeros xs)
-
--- the ends of edge e of a table
-abbrev pub endsAt : List ℕ → ℕ → Ends
-endsAt edges e = record { parent = getD edges (2 * e) 0; child = getD edges (2 * e + 1) 0 }
-
--- what a loop over an edge table asks: the table has all its edges, and their ends are below n
-pub record Edges (n count : ℕ) (edges : List ℕ) : Type 0 where
-  pub table : 2 * count ≤ length edges
-  pub below : (parent child : ℕ) → Edge (edgesOf edges count) parent child → (parent < n) × (child < n)
-
--- some element stands again later in the list
-unfoldable pub repeats : List ℕ → Bool
-repeats [] = false
-repeats (x ∷ xs) = any (eqb x) xs || repeats xs
-
--- what a pass says by its answer: something changed and the measure fell, or nothing changed
-abbrev pub Went : (List ℕ → ℕ) → Bool → List ℕ → List ℕ → Type 0
-Went measure true before after = measure after < measure before
-Went measure false before after = after ≡ before
-
--- the number of a refusal, 0 for none
-abbrev pub numberOf : Option ℕ → ℕ
-numberOf none = 0
-numberOf (some k) = k
+use lib.ListN.{length, getD, set, take}
+use Rattle.lists.specs.Lists.{zeros}
+use Rattle.hierarchy.specs.Hierarchy.{Edge, Reach, edgesOf, Legal}
+use Rattle.hierarchy.specs.Inner.{Edges}
+use Rattle.intervals.specs.Numbering.{numbering}
 
 -- what a walk of a node asks: it is unseen, the tables fit together, and the counter has room for each node twice
 pub record Ready (node next count : ℕ) (edges marks numbers : List ℕ) : Type 0 where
@@ -60,10 +25,6 @@ pub record Fresh (n count : ℕ) (edges numbers : List ℕ) : Type 0 where
   pub few : n ≤ 256
   pub alike : length numbers ≡ n
   pub ends : Edges n count edges
-
--- the marks when the walk of n nodes has ended: 0 of a node that it has not seen
-unfoldable pub lastMarks : ℕ → List ℕ → List ℕ
-lastMarks n es = (walk n es 0 (at 1 (replicate n 0) (replicate n 0))) .marks
 
 -- x is better than y: greater where up is true, less where it is false
 abbrev pub isBetter : Bool → ℕ → ℕ → Bool

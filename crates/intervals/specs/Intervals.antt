@@ -1,10 +1,10 @@
 -- Intervals, and the table that building writes. Assumes nothing.
 use mathlib.Core.List.{List, [], _∷_}
-use mathlib.Core.Bool.{Bool, true, false, not, _&&_}
+use mathlib.Core.Bool.{not, _&&_}
 use Prim.Native.Nat.{ℕ, zero, suc}
 use lib.Dec.{eqb}
-use Rattle.intervals.specs.Lists.{keptIf, least, greatest}
-use Rattle.intervals.specs.Hierarchy.{reach}
+use Rattle.lists.specs.Lists.{keptIf, least, greatest}
+use Rattle.hierarchy.specs.Hierarchy.{reach}
 use Rattle.intervals.specs.Numbering.{numbering}
 
 -- the numbers among the flagged nodes

@@ -4,7 +4,7 @@ use mathlib.Core.Bool.{Bool, true, false}
 use Prim.Native.Nat.{ℕ, zero, suc, _+_}
 use lib.Dec.{eqb}
 use lib.ListN.{getD, set, replicate}
-use Rattle.intervals.specs.Hierarchy.{children}
+use Rattle.hierarchy.specs.Hierarchy.{children}
 
 -- where a walk stands: the next number, and for each node its mark (0 unseen, 1 open, 2 closed) and its number (0: it has none)
 pub record Walk : Type 0 where

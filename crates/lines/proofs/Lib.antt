@@ -1,3 +1,5 @@
-pub mod Puts
 pub mod Runs
+pub mod Bounds
+pub mod Fits
 pub mod Files
+pub mod Parts

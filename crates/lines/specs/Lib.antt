@@ -1,3 +1,3 @@
-pub mod Text
 pub mod Listing
+pub mod Pieces
 pub mod Inner

@@ -1,35 +1,16 @@
--- The listing of a file: the lines of its steps, the last line, and what listing into lent places leaves. Assumes nothing.
+-- What listing a file into lent places leaves. Assumes nothing.
 use mathlib.Core.Path.{_≡_}
 use mathlib.Core.Bool.{_||_}
-use mathlib.Core.List.{List, [], _∷_, _++_}
-use mathlib.Core.Option.{Option, none}
-use Prim.Native.Nat.{ℕ, suc}
+use mathlib.Core.List.{List, [], _∷_}
+use mathlib.Core.Option.{Option}
+use Prim.Native.Nat.{ℕ}
 use lib.Dec.{ltb}
 use lib.ListN.{length}
-use Rattle.intervals.specs.Answer.{Answer, done, refused as denied, _when_, refusal, answerOf}
-use Rattle.blocks.specs.File.{roomAfter}
-use Rattle.replay.specs.Replay.{StepAnswer, FileRun, runFile}
-use Rattle.lines.specs.Text.{decimal, space, newline, refusedWord, endWord, answerText}
+use Rattle.lists.specs.Answer.{Answer, done, refused as denied, _when_, refusal, answerOf, roomAfter}
+use Rattle.replay.specs.Replay.{FileRun, runFile}
+use Rattle.texts.specs.Lines.{listing}
 use Rattle.lines.specs.declared.ListingAnswer.{ListingAnswer}
 use Rattle.lines.specs.declared.ListingAnswer.the-variants.{Listed, Refused}
-
--- a step's line: its number, and its answer
-abbrev pub stepLine : ℕ → StepAnswer → List ℕ
-stepLine k a = (decimal k ++ space) ++ (answerText a ++ newline)
-
--- the lines of steps numbered from k
-unfoldable pub stepLines : ℕ → List StepAnswer → List ℕ
-stepLines k [] = []
-stepLines k (a ∷ rest) = stepLine k a ++ stepLines (suc k) rest
-
--- the last line: holders, waiters and grants
-abbrev pub endLine : ℕ → ℕ → ℕ → List ℕ
-endLine holders waiters grants = ((endWord ++ decimal holders) ++ (space ++ decimal waiters)) ++ ((space ++ decimal grants) ++ newline)
-
--- the listing: a refused file or hierarchy gives the one line
-abbrev pub listing : Answer FileRun → List ℕ
-listing (done run) = stepLines 1 (run .answers) ++ endLine (run .holders) (run .waiters) (run .grants)
-listing (denied k) = (refusedWord ++ decimal k) ++ newline
 
 -- the values after the file; none where it is refused
 abbrev pub valuesOf : Answer FileRun → List ℕ

@@ -1,25 +1,24 @@
-// The listing of a file, as text in lent bytes: numbers, words, the lines of the steps, and the last line.
+// A file listed into lent bytes: its steps performed and their lines put, whole or in pieces.
 ghost use mathlib.Core.Path.{_≡_};
-ghost use mathlib.Core.List.{[], _∷_, _++_};
-ghost use Prim.Native.Nat.{_+_, _*_, _≤_};
-ghost use lib.Dec.{leb};
-ghost use lib.ListN.{length, take, getD, replicate};
-ghost use Rattle.intervals.specs.Lists.{one};
-ghost use Rattle.intervals.specs.Answer.{refused};
-ghost use Rattle.blocks.specs.Record.{kindOf};
-ghost use Rattle.desk.specs.Desks.{lent, freshDesk};
-ghost use Rattle.replay.specs.Answers.{stepMeaning};
-ghost use Rattle.replay.specs.Replay.{recordList, sizeOf, edgeTable, edgeCountOf, stepRecords, startOf, stateOf, performAll, isHolding, holdersAt, runRecords, runFile};
-ghost use Rattle.lines.specs.Text.{decimal, leftWord, spaced, answerText};
-ghost use Rattle.lines.specs.Listing.{stepLine, endLine, listing, listFile, Lists};
-ghost use Rattle.lines.specs.Inner.{Puts, PutsFew, grantsIn, StepPut, StepsPut, RunListed, Listing};
-use blocks::ReadAnswer;
+ghost use Prim.Native.Nat.{_-_, _*_, _≤_};
+ghost use lib.ListN.{length, replicate};
+ghost use Rattle.lists.specs.Answer.{done};
+ghost use Rattle.locks.specs.Lent.{lent};
+ghost use Rattle.replay.specs.Replay.{recordList, stepRecords, startOf, fileRun, performAll, runFile};
+ghost use Rattle.texts.specs.Lines.{listing};
+ghost use Rattle.opening.specs.Opening.{openedRun};
+ghost use Rattle.lines.specs.Listing.{listFile, Lists};
+ghost use Rattle.lines.specs.Pieces.{following, writtenOf, recordWritten, recordsWritten};
+ghost use Rattle.lines.specs.Inner.{RunListed, Listing};
+use blocks::RECORD;
 use desk::Desk;
-use desk::Entry;
-use desk::Stage;
-use intervals::BuildAnswer;
-use replay::EdgesAnswer;
-use replay::Outcome;
+use opening::OpenAnswer;
+
+// The values of a file are at most 256.
+pub const VALUES: usize = 256;
+
+// Its listing has at most 635,040 bytes.
+pub const TEXT_BYTES: usize = 635040;
 
 // What listing a file answers: how many bytes the listing has, or refused.
 pub enum ListingAnswer {
@@ -28,155 +27,21 @@ pub enum ListingAnswer {
 }
 
 // Between two steps of a file: the desk, the number of the next step, and the place of its line.
-struct Progress {
-    desk: Desk,
-    number: usize,
-    at: usize,
+pub struct Progress {
+    pub desk: Desk,
+    pub number: usize,
+    pub at: usize,
 }
 
-// Puts the bytes into the text from place `at` on, and answers the place behind them.
-fn put_bytes(bytes: &[u8], at: usize, text: &mut [u8]) -> usize
-    requires { ⌜ at + length (now bytes) ≤ length (now text) ⌝ }
-    ensures { λ r. ⌜ Puts at (now (bytes .entry)) (now (text .entry)) (now (text .exit)) r ⌝ }
+// The number of the next step; the greatest number stays.
+fn after(number: usize) -> usize
+    ensures { λ r. ⌜ r ≡ following number ⌝ }
 {
-    let mut i = 0;
-    while i < bytes.len() {
-        text[at + i] = bytes[i];
-        i += 1;
+    if number < 18446744073709551615 {
+        number + 1
+    } else {
+        number
     }
-    at + bytes.len()
-}
-
-// Puts a number in decimal digits.
-fn put_number(n: u64, at: usize, text: &mut [u8]) -> usize
-    requires { ⌜ at + 20 ≤ length (now text) ⌝ }
-    ensures { λ r. ⌜ PutsFew 20 at (decimal n) (now (text .entry)) (now (text .exit)) r ⌝ }
-{
-    let mut digits = [0u8; 20];
-    let k = io::decimal(n, &mut digits);
-    put_bytes(&digits[..k], at, text)
-}
-
-// Puts a word, and a number behind it.
-fn put_word_number(word: &[u8], n: u64, at: usize, text: &mut [u8]) -> usize
-    requires { ⌜ at + length (now word) + 20 ≤ length (now text) ⌝ }
-    ensures { λ r. ⌜ PutsFew (length (now (word .entry)) + 20) at (now (word .entry) ++ decimal n) (now (text .entry)) (now (text .exit)) r ⌝ }
-{
-    let behind = put_bytes(word, at, text);
-    put_number(n, behind, text)
-}
-
-// Puts the party at place i, a space before it.
-fn put_party(parties: &[u8], i: usize, at: usize, text: &mut [u8]) -> usize
-    requires { ⌜ (i + 1 ≤ length (now parties)) × (at + 21 ≤ length (now text)) ⌝ }
-    ensures { λ r. ⌜ PutsFew 4 at (32 ∷ decimal (getD (now (parties .entry)) i 0)) (now (text .entry)) (now (text .exit)) r ⌝ }
-{
-    put_word_number(b" ", blocks::byte(i, parties) as u64, at, text)
-}
-
-// Puts the first parties, a space before each.
-fn put_parties(parties: &[u8], count: usize, at: usize, text: &mut [u8]) -> usize
-    requires { ⌜ (count ≤ length (now parties)) × (count ≤ 32) × (at + 149 ≤ length (now text)) ⌝ }
-    ensures { λ r. ⌜ PutsFew 128 at (spaced (take count (now (parties .entry)))) (now (text .entry)) (now (text .exit)) r ⌝ }
-{
-    let mut here = at;
-    let mut i = 0;
-    while i < count {
-        here = put_party(parties, i, here, text);
-        i += 1;
-    }
-    here
-}
-
-// Puts what a leave answered: the word, and the parties.
-fn put_left(parties: &[u8], count: usize, at: usize, text: &mut [u8]) -> usize
-    requires { ⌜ (count ≤ length (now parties)) × (count ≤ 32) × (at + 153 ≤ length (now text)) ⌝ }
-    ensures { λ r. ⌜ PutsFew 132 at (leftWord ++ spaced (take count (now (parties .entry)))) (now (text .entry)) (now (text .exit)) r ⌝ }
-{
-    let behind = put_bytes(b"left", at, text);
-    put_parties(parties, count, behind, text)
-}
-
-// Puts a step's answer.
-fn put_answer(outcome: Outcome, parties: &[u8], at: usize, text: &mut [u8]) -> usize
-    requires { ⌜ (grantsIn outcome ≤ length (now parties)) × (grantsIn outcome ≤ 32) × (at + 153 ≤ length (now text)) ⌝ }
-    ensures { λ r. ⌜ PutsFew 132 at (answerText (stepMeaning outcome (now (parties .entry)))) (now (text .entry)) (now (text .exit)) r ⌝ }
-{
-    match outcome {
-        Outcome::Granted(cover) => put_word_number(b"granted ", cover as u64, at, text),
-        Outcome::Waits => put_bytes(b"waits", at, text),
-        Outcome::Value(v) => put_word_number(b"value ", v, at, text),
-        Outcome::Stored => put_bytes(b"stored", at, text),
-        Outcome::Left(count) => put_left(parties, count, at, text),
-        Outcome::Refused(k) => put_word_number(b"refused ", k as u64, at, text),
-    }
-}
-
-// Puts a number, and a word behind it.
-fn put_number_word(n: u64, word: &[u8], at: usize, text: &mut [u8]) -> usize
-    requires { ⌜ (at + 20 + length (now word)) ≤ length (now text) ⌝ }
-    ensures { λ r. ⌜ PutsFew (20 + length (now (word .entry))) at (decimal n ++ now (word .entry)) (now (text .entry)) (now (text .exit)) r ⌝ }
-{
-    let behind = put_number(n, at, text);
-    put_bytes(word, behind, text)
-}
-
-// Puts a step's line.
-fn put_line(number: usize, outcome: Outcome, parties: &[u8], at: usize, text: &mut [u8]) -> usize
-    requires { ⌜ (grantsIn outcome ≤ length (now parties)) × (grantsIn outcome ≤ 32) × (at + 175 ≤ length (now text)) ⌝ }
-    ensures { λ r. ⌜ PutsFew 154 at (stepLine number (stepMeaning outcome (now (parties .entry)))) (now (text .entry)) (now (text .exit)) r ⌝ }
-{
-    let first = put_number_word(number as u64, b" ", at, text);
-    let behind = put_answer(outcome, parties, first, text);
-    put_bytes(b"\n", behind, text)
-}
-
-// 1 where a party is holding, and 0 where it is not.
-fn holding(entry: Entry) -> usize
-    ensures { λ r. ⌜ r ≡ one (isHolding (entry .stage)) ⌝ }
-{
-    let stage = entry.stage;
-    match stage {
-        Stage::Out => 0,
-        Stage::Waiting(_l) => 0,
-        Stage::Holding(_l) => 1,
-    }
-}
-
-// The count of holders.
-fn holders(desk: Desk) -> usize
-    ensures { λ r. ⌜ (r ≡ holdersAt desk) × (r ≤ 32) ⌝ }
-{
-    let mut count = 0;
-    let mut i = 0;
-    while i < 32 {
-        let e = desk.entries[i];
-        count += holding(e);
-        i += 1;
-    }
-    count
-}
-
-// Puts the last line.
-fn put_end(desk: Desk, at: usize, text: &mut [u8]) -> usize
-    requires { ⌜ at + 160 ≤ length (now text) ⌝ }
-    ensures { λ r. ⌜ Puts at (endLine (holdersAt desk) (desk .waiting) (desk .grants)) (now (text .entry)) (now (text .exit)) r ⌝ }
-{
-    let waiting = desk.waiting;
-    let grants = desk.grants;
-    let first = put_word_number(b"end ", holders(desk) as u64, at, text);
-    let second = put_word_number(b" ", waiting as u64, first, text);
-    let third = put_word_number(b" ", grants as u64, second, text);
-    put_bytes(b"\n", third, text)
-}
-
-// Puts the one line of a refused file or hierarchy.
-fn put_refused(k: u8, text: &mut [u8]) -> usize
-    requires { ⌜ 160 ≤ length (now text) ⌝ }
-    ensures { λ r. ⌜ Puts 0 (listing (refused k)) (now (text .entry)) (now (text .exit)) r ⌝ }
-{
-    let behind = put_word_number(b"refused ", k as u64, 0, text);
-    put_bytes(b"\n", behind, text)
 }
 
 // One record of the file: a step is performed, and its line is put.
@@ -185,63 +50,58 @@ fn put_step(
     n: usize,
     intervals: &[u16],
     edges: &[u16],
-    count: usize,
+    edge_count: usize,
     bytes: &[u8],
     values: &mut [u64],
     text: &mut [u8],
 ) -> Progress
-    requires { ⌜ (progress .at + 175 ≤ length (now text)) × (progress .number ≤ 3968) ⌝ }
-    ensures { λ r. ⌜ StepPut (leb 3 (kindOf (now (bytes .entry)))) (lent n (now (intervals .entry)) (now (edges .entry)) count) progress (now (bytes .entry)) (now (values .entry)) (now (text .entry)) (now (values .exit)) (now (text .exit)) r ⌝ }
+    ensures { λ r. ⌜ writtenOf (lent n (now (intervals .entry)) (now (edges .entry)) «edge_count») r (now (values .exit)) (now (text .exit)) ≡ recordWritten (writtenOf (lent n (now (intervals .entry)) (now (edges .entry)) «edge_count») progress (now (values .entry)) (now (text .entry))) (now (bytes .entry)) ⌝ }
 {
     let desk = progress.desk;
-    if blocks::byte(0, bytes) < 3 {
+    if octets::byte(bytes, 0) < 3 {
         return Progress {
             desk,
             number: progress.number,
             at: progress.at,
         };
     }
-    let step = replay::perform(desk, n, intervals, edges, count, bytes, values);
+    let step = replay::perform(desk, n, intervals, edges, edge_count, bytes, values);
     let next = step.desk;
     let outcome = step.outcome;
     let parties = step.parties;
-    let at = put_line(progress.number, outcome, &parties, progress.at, text);
+    let at = texts::put_line(progress.number, outcome, &parties, progress.at, text);
     Progress {
         desk: next,
-        number: progress.number + 1,
+        number: after(progress.number),
         at,
     }
 }
 
-// All the steps of the file.
-fn put_steps(
+// Lists records one after the other: each step is performed, and its line is put. The place of the text may be set back to 0 between two calls.
+pub fn put_steps(
+    start: Progress,
     n: usize,
     intervals: &[u16],
     edges: &[u16],
-    count: usize,
+    edge_count: usize,
     records: &[u8],
     values: &mut [u64],
     text: &mut [u8],
 ) -> Progress
-    requires { ⌜ (length (now records) ≤ 63488) × (635040 ≤ length (now text)) ⌝ }
-    ensures { λ r. ⌜ StepsPut (performAll (lent n (now (intervals .entry)) (now (edges .entry)) count) (stateOf freshDesk (now (values .entry))) (stepRecords (recordList (now (records .entry))))) (now (text .entry)) (now (values .exit)) (now (text .exit)) r ⌝ }
+    ensures { λ r. ⌜ writtenOf (lent n (now (intervals .entry)) (now (edges .entry)) «edge_count») r (now (values .exit)) (now (text .exit)) ≡ recordsWritten (writtenOf (lent n (now (intervals .entry)) (now (edges .entry)) «edge_count») start (now (values .entry)) (now (text .entry))) (recordList (now (records .entry))) ⌝ }
 {
-    let total = records.len() / 16;
-    let mut progress = Progress {
-        desk: Desk::fresh(),
-        number: 1,
-        at: 0,
-    };
+    let total = records.len() / RECORD;
+    let mut progress = start;
     let mut i = 0;
     while i < total {
-        let from = 16 * i;
-        let to = from + 16;
+        let from = RECORD * i;
+        let to = from + RECORD;
         progress = put_step(
             progress,
             n,
             intervals,
             edges,
-            count,
+            edge_count,
             &records[from..to],
             values,
             text,
@@ -267,86 +127,85 @@ fn list_built(
     n: usize,
     intervals: &[u16],
     edges: &[u16],
-    count: usize,
+    edge_count: usize,
     records: &[u8],
     values: &mut [u64],
     text: &mut [u8],
 ) -> usize
-    requires { ⌜ (length (now records) ≤ 63488) × (635040 ≤ length (now text)) ⌝ }
-    ensures { λ r. ⌜ RunListed (performAll (lent n (now (intervals .entry)) (now (edges .entry)) count) (startOf (length (now (values .entry)))) (stepRecords (recordList (now (records .entry))))) (now (text .entry)) (now (values .exit)) (now (text .exit)) r ⌝ }
+    ensures { λ r. ⌜ RunListed (performAll (startOf (lent n (now (intervals .entry)) (now (edges .entry)) «edge_count») (length (now (values .entry)))) (stepRecords (recordList (now (records .entry))))) (now (text .entry)) (now (values .exit)) (now (text .exit)) r ⌝ }
 {
     clear(values);
-    let progress = put_steps(n, intervals, edges, count, records, values, text);
+    let start = Progress {
+        desk: Desk::fresh(),
+        number: 1,
+        at: 0,
+    };
+    let progress = put_steps(
+        start,
+        n,
+        intervals,
+        edges,
+        edge_count,
+        records,
+        values,
+        text,
+    );
     let at = progress.at;
     let desk = progress.desk;
-    put_end(desk, at, text)
+    texts::put_end(desk, at, text)
 }
 
-// Builds the hierarchy, and runs the steps over it.
-fn list_hierarchy(
+// Lists an opened file, from the places that it was opened into.
+fn list_opened(
     n: usize,
+    places: &[u16],
     edges: &[u16],
-    count: usize,
+    edge_count: usize,
     records: &[u8],
+    total: usize,
     values: &mut [u64],
     text: &mut [u8],
 ) -> usize
-    requires { ⌜ (length (now records) ≤ 63488) × (256 ≤ length (now values)) × (635040 ≤ length (now text)) ⌝ }
-    requires { ⌜ (n ≡ sizeOf (recordList (now records))) × (now edges ≡ edgeTable (recordList (now records))) × (count ≡ edgeCountOf (recordList (now records))) ⌝ }
-    ensures { λ r. ⌜ Listing (runRecords (recordList (now (records .entry)))) (now (values .entry)) (now (text .entry)) (now (values .exit)) (now (text .exit)) r ⌝ }
+    requires { ⌜ (n ≤ 256) × (2 * «edge_count» ≤ 7936) × (16 * total ≤ 63488) ⌝ }
+    requires { ⌜ (512 ≤ length (now places)) × (7936 ≤ length (now edges)) × (63488 ≤ length (now records)) × (256 ≤ length (now values)) ⌝ }
+    ensures { λ r. ⌜ Listing (done (fileRun (openedRun n (now (places .entry)) (now (edges .entry)) «edge_count» (now (records .entry)) total))) (now (values .entry)) (now (text .entry)) (now (values .exit)) (now (text .exit)) r ⌝ }
 {
-    if n > 256 {
-        return put_refused(5, text);
-    }
-    let mut places = [0u16; 512];
-    let mut scratch = [0u8; 2048];
-    let answer = intervals::build(n, edges, count, &mut places, &mut scratch);
-    match answer {
-        BuildAnswer::Refused(k) => put_refused(k, text),
-        BuildAnswer::Built => {
-            let end = 2 * n;
-            list_built(
-                n,
-                &places[..end],
-                edges,
-                count,
-                records,
-                &mut values[..n],
-                text,
-            )
-        }
-    }
+    let low = 2 * n;
+    let ends = 2 * edge_count;
+    let bytes = RECORD * total;
+    list_built(
+        n,
+        &places[..low],
+        &edges[..ends],
+        edge_count,
+        &records[..bytes],
+        &mut values[..n],
+        text,
+    )
 }
 
-// Lists the records of a file.
-fn list_records(records: &[u8], values: &mut [u64], text: &mut [u8]) -> usize
-    requires { ⌜ (length (now records) ≤ 63488) × (256 ≤ length (now values)) × (635040 ≤ length (now text)) ⌝ }
-    ensures { λ r. ⌜ Listing (runRecords (recordList (now (records .entry)))) (now (values .entry)) (now (text .entry)) (now (values .exit)) (now (text .exit)) r ⌝ }
-{
-    let n = replay::size(records);
-    let mut table = [0u16; 7936];
-    let answer = replay::edges(records, &mut table);
-    match answer {
-        EdgesAnswer::Refused(k) => put_refused(k, text),
-        EdgesAnswer::Edges(count) => {
-            let end = 2 * count;
-            list_hierarchy(n, &table[..end], count, records, values, text)
-        }
-    }
-}
-
-// Lists a file that is no longer than 128 blocks.
+// Lists a file into places that are long enough.
 fn list_file(file: &[u8], values: &mut [u64], text: &mut [u8]) -> usize
-    requires { ⌜ (length (now file) ≤ 65536) × (256 ≤ length (now values)) × (635040 ≤ length (now text)) ⌝ }
+    requires { ⌜ 256 ≤ length (now values) ⌝ }
     ensures { λ r. ⌜ Listing (runFile (now (file .entry))) (now (values .entry)) (now (text .entry)) (now (values .exit)) (now (text .exit)) r ⌝ }
 {
-    let mut room = [0u8; 63488];
-    let answer = blocks::read(file, &mut room);
+    let mut records = [0u8; opening::RECORD_BYTES];
+    let mut edges = [0u16; opening::EDGE_PLACES];
+    let mut places = [0u16; opening::INTERVAL_PLACES];
+    let answer = opening::open_run(file, &mut records, &mut edges, &mut places);
     match answer {
-        ReadAnswer::Refused(k) => put_refused(k, text),
-        ReadAnswer::Records(count) => {
-            let end = 16 * count;
-            list_records(&room[..end], values, text)
+        OpenAnswer::Refused(k) => texts::put_refused(k, text),
+        OpenAnswer::Opened(n, edge_count, total) => {
+            list_opened(
+                n,
+                &places,
+                &edges,
+                edge_count,
+                &records,
+                total,
+                values,
+                text,
+            )
         }
     }
 }
@@ -355,14 +214,11 @@ fn list_file(file: &[u8], values: &mut [u64], text: &mut [u8]) -> usize
 pub fn listing(file: &[u8], values: &mut [u64], text: &mut [u8]) -> ListingAnswer
     ensures { λ r. ⌜ Lists r (now (values .exit)) (now (text .exit)) (listFile (now (file .entry)) (now (values .entry)) (now (text .entry))) ⌝ }
 {
-    if values.len() < 256 {
+    if values.len() < VALUES {
         return ListingAnswer::Refused(1);
     }
-    if text.len() < 635040 {
+    if text.len() < TEXT_BYTES {
         return ListingAnswer::Refused(1);
-    }
-    if file.len() > 65536 {
-        return ListingAnswer::Listed(put_refused(2, text));
     }
     ListingAnswer::Listed(list_file(file, values, text))
 }

@@ -1,33 +1,206 @@
-ghost use lib.ListN.{length};
+// The listing program: one file on standard input, its listing on standard output, written in pieces.
 ghost use mathlib.Core.Path.{_≡_};
-// The listing program: one file on standard input, its listing on standard output.
-use lines::ListingAnswer;
+ghost use Prim.Native.Nat.{_+_, _*_, _≤_, min};
+ghost use lib.ListN.{length};
+ghost use Rattle.locks.specs.Lent.{lent};
+ghost use Rattle.desk.specs.Desks.{freshDesk};
+ghost use Rattle.replay.specs.Replay.{recordList};
+ghost use Rattle.lines.specs.Pieces.{writtenOf, anew, recordsWritten, partsWritten, endWritten, partsIn};
+use blocks::RECORD;
+use desk::Desk;
+use lines::Progress;
+use opening::OpenAnswer;
 
-// Room for a file, and for one byte more, which tells that the input is too long.
-fn file_room() -> [u8; 65537]
+// The bytes of a file at most, and one more, which tells that the input is too long.
+const FILE: usize = opening::FILE_BYTES + 1;
+
+// The bytes of the records of a piece: 100 records.
+const PART: usize = 1600;
+
+// The bytes of its lines at most: 160 for each record.
+const TEXT: usize = 10 * PART;
+
+// Room for a file.
+fn file_room() -> [u8; FILE]
     ensures { λ r. ⌜ 65537 ≡ length r ⌝ }
 {
-    [0u8; 65537]
+    [0u8; FILE]
 }
 
-// Room for the longest listing.
-fn text_room() -> [u8; 635040]
-    ensures { λ r. ⌜ 635040 ≡ length r ⌝ }
+// Room for its records.
+fn record_room() -> [u8; opening::RECORD_BYTES]
+    ensures { λ r. ⌜ 63488 ≡ length r ⌝ }
 {
-    [0u8; 635040]
+    [0u8; opening::RECORD_BYTES]
 }
 
-// Reads the file, lists it, and writes the listing in one piece.
+// Room for its edge table.
+fn edge_room() -> [u16; opening::EDGE_PLACES]
+    ensures { λ r. ⌜ 7936 ≡ length r ⌝ }
+{
+    [0u16; opening::EDGE_PLACES]
+}
+
+// Room for the lines of a piece.
+fn text_room() -> [u8; TEXT]
+    ensures { λ r. ⌜ 16000 ≡ length r ⌝ }
+{
+    [0u8; TEXT]
+}
+
+// Where the part of the records that begins at `from` ends.
+fn part_end(from: usize, all: usize) -> usize
+    requires { ⌜ from ≤ all ⌝ }
+    ensures { λ r. ⌜ r ≡ min (from + 1600) all ⌝ }
+{
+    if all - from < PART { all } else { from + PART }
+}
+
+// Lists a part of the records into the text from its first byte on, and writes the lines.
+fn write_part(
+    progress: Progress,
+    n: usize,
+    intervals: &[u16],
+    edges: &[u16],
+    edge_count: usize,
+    records: &[u8],
+    values: &mut [u64],
+    text: &mut [u8],
+) -> Progress
+    ensures { λ r. ⌜ writtenOf (lent n (now (intervals .entry)) (now (edges .entry)) «edge_count») r (now (values .exit)) (now (text .exit)) ≡ recordsWritten (anew (writtenOf (lent n (now (intervals .entry)) (now (edges .entry)) «edge_count») progress (now (values .entry)) (now (text .entry)))) (recordList (now (records .entry))) ⌝ }
+{
+    let desk = progress.desk;
+    let start = Progress {
+        desk,
+        number: progress.number,
+        at: 0,
+    };
+    let next = lines::put_steps(
+        start,
+        n,
+        intervals,
+        edges,
+        edge_count,
+        records,
+        values,
+        text,
+    );
+    let at = next.at;
+    io::write_all(1, &text[..at]);
+    next
+}
+
+// Writes the lines of all records, part by part.
+fn write_steps(
+    n: usize,
+    intervals: &[u16],
+    edges: &[u16],
+    edge_count: usize,
+    records: &[u8],
+    values: &mut [u64],
+    text: &mut [u8],
+) -> Progress
+    ensures { λ r. ⌜ writtenOf (lent n (now (intervals .entry)) (now (edges .entry)) «edge_count») r (now (values .exit)) (now (text .exit)) ≡ partsWritten (writtenOf (lent n (now (intervals .entry)) (now (edges .entry)) «edge_count») (record { desk = freshDesk; number = 1; at = 0 }) (now (values .entry)) (now (text .entry))) (partsIn (now (records .entry))) ⌝ }
+{
+    let mut progress = Progress {
+        desk: Desk::fresh(),
+        number: 1,
+        at: 0,
+    };
+    let mut from = 0;
+    while from < records.len() {
+        let to = part_end(from, records.len());
+        progress = write_part(
+            progress,
+            n,
+            intervals,
+            edges,
+            edge_count,
+            &records[from..to],
+            values,
+            text,
+        );
+        from = to;
+    }
+    progress
+}
+
+// Writes the listing of an open file.
+fn write_run(
+    n: usize,
+    intervals: &[u16],
+    edges: &[u16],
+    edge_count: usize,
+    records: &[u8],
+    values: &mut [u64],
+    text: &mut [u8],
+)
+    ensures { λ _. ⌜ now (values .exit) ≡ (partsWritten (writtenOf (lent n (now (intervals .entry)) (now (edges .entry)) «edge_count») (record { desk = freshDesk; number = 1; at = 0 }) (now (values .entry)) (now (text .entry))) (partsIn (now (records .entry)))) .state .values ⌝ }
+    ensures { λ _. ⌜ now (text .exit) ≡ (endWritten (partsWritten (writtenOf (lent n (now (intervals .entry)) (now (edges .entry)) «edge_count») (record { desk = freshDesk; number = 1; at = 0 }) (now (values .entry)) (now (text .entry))) (partsIn (now (records .entry))))) .text ⌝ }
+{
+    let progress = write_steps(n, intervals, edges, edge_count, records, values, text);
+    let desk = progress.desk;
+    let at = texts::put_end(desk, 0, text);
+    io::write_all(1, &text[..at]);
+}
+
+// Writes the listing of an opened file, from the places that it was opened into.
+fn write_opened(
+    n: usize,
+    places: &[u16],
+    edges: &[u16],
+    edge_count: usize,
+    records: &[u8],
+    total: usize,
+    values: &mut [u64],
+    text: &mut [u8],
+)
+    requires { ⌜ (n ≤ 256) × (2 * «edge_count» ≤ 7936) × (16 * total ≤ 63488) ⌝ }
+    requires { ⌜ (512 ≤ length (now places)) × (7936 ≤ length (now edges)) × (63488 ≤ length (now records)) × (256 ≤ length (now values)) ⌝ }
+{
+    let low = 2 * n;
+    let ends = 2 * edge_count;
+    let bytes = RECORD * total;
+    write_run(
+        n,
+        &places[..low],
+        &edges[..ends],
+        edge_count,
+        &records[..bytes],
+        &mut values[..n],
+        text,
+    );
+}
+
+// Writes the one line of a refused file.
+fn write_refused(k: u8, text: &mut [u8]) {
+    let at = texts::put_refused(k, text);
+    io::write_all(1, &text[..at]);
+}
+
+// Reads the file, opens it, and writes its listing.
 fn main() {
     let mut file = file_room();
-    let n = io::read_full(0, &mut file);
-    let mut values = [0u64; 256];
+    let got = io::read_full(0, &mut file);
+    let mut records = record_room();
+    let mut edges = edge_room();
+    let mut places = [0u16; opening::INTERVAL_PLACES];
+    let answer = opening::open_run(&file[..got], &mut records, &mut edges, &mut places);
+    let mut values = [0u64; lines::VALUES];
     let mut text = text_room();
-    let answer = lines::listing(&file[..n], &mut values, &mut text);
     match answer {
-        ListingAnswer::Listed(k) => {
-            io::write_all(1, &text[..k]);
+        OpenAnswer::Refused(k) => write_refused(k, &mut text),
+        OpenAnswer::Opened(n, edge_count, total) => {
+            write_opened(
+                n,
+                &places,
+                &edges,
+                edge_count,
+                &records,
+                total,
+                &mut values,
+                &mut text,
+            )
         }
-        ListingAnswer::Refused(_k) => {}
     }
 }

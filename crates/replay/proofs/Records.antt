@@ -9,14 +9,14 @@ use native.Mathlib.Omega.{arith}
 use lib.Dec.{eqb, ltb}
 use lib.ListN.{length, getD, take, drop, set, length-append, length-take, length-drop, drop-of-length-le}
 use lib.Seq.{getD-take, getD-drop, drop-drop, sets-eq}
-use Rattle.intervals.specs.Lists.{count, one, over}
-use Rattle.intervals.specs.Answer.{_when_, refusal}
-use Rattle.intervals.proofs.Loops.{drop-step}
-use Rattle.blocks.specs.Bytes.{byte, number2}
+use Rattle.lists.specs.Lists.{count, one, over}
+use Rattle.lists.specs.Answer.{_when_, refusal}
+use Rattle.lists.proofs.Loops.{drop-step}
+use Rattle.octets.specs.Bytes.{byte, number2}
 use Rattle.blocks.specs.Record.{kindOf, parentIn, childIn, nameCountIn, namesIn}
-use Rattle.blocks.specs.Inner.{overAt}
-use Rattle.blocks.proofs.Writes.{over-over, over-none, over-turn}
-use Rattle.desk.proofs.Judging.{half-ltb}
+use Rattle.octets.specs.Writes.{overAt}
+use Rattle.octets.proofs.Writes.{over-over, over-none, over-turn}
+use Rattle.locks.proofs.Tables.{half-ltb}
 use Rattle.replay.specs.Replay.{eachRecord, recordList, sizeOf, edgeIf, edgeTable, edgeCountOf}
 use Rattle.replay.specs.declared.EdgesAnswer.the-variants.{Edges, Refused as EdgesRefused}
 use Rattle.replay.specs.Answers.{edgesRefusal, EdgesInto, edgesInto}
@@ -161,3 +161,9 @@ module _ (rs : List (List ℕ)) (table : List ℕ) where
 pub one-most : (b : Bool) → one b ≤ 1
 one-most true = omega arith
 one-most false = omega arith
+
+-- a list has at least as many as are counted
+pub count-most : {A : Type 0} (p : A → Bool) (l : List A) → count p l ≤ length l
+unfolding count
+count-most p [] = omega arith
+count-most p (x ∷ xs) = omega (arith, one-most (p x), count-most p xs)

@@ -1,22 +1,23 @@
 -- Running a file: its records as a hierarchy and steps, what each step answers, and the end. Assumes nothing.
-use mathlib.Core.List.{List, [], _∷_}
+use mathlib.Core.List.{List, [], _∷_, map}
 use mathlib.Core.Bool.{Bool, true, false, cond}
 use mathlib.Core.Option.{Option, none, some}
 use Prim.Native.Nat.{ℕ, zero, suc, _/_}
 use lib.Dec.{eqb, leb}
 use lib.ListN.{length, take, drop, replicate}
-use Rattle.intervals.specs.Lists.{keep, count}
-use Rattle.intervals.specs.Answer.{Answer, done, refused as denied, refusal}
-use Rattle.intervals.specs.Hierarchy.{hierarchyChecks}
+use Rattle.lists.specs.Lists.{keep, count}
+use Rattle.lists.specs.Answer.{Answer, done, refused as denied, refusal}
+use Rattle.hierarchy.specs.Hierarchy.{hierarchyChecks}
 use Rattle.intervals.specs.Intervals.{intervalTable}
 use Rattle.blocks.specs.Record.{kindOf, sizeIn, parentIn, childIn, partyIn, modeIn, nameCountIn, namesIn, nodeIn, valueIn}
 use Rattle.blocks.specs.File.{fileChecks, fileRecords}
-use Rattle.desk.specs.declared.Stage.{Stage}
-use Rattle.desk.specs.declared.Stage.the-variants.{Out, Waiting, Holding}
+use Rattle.locks.specs.declared.Stage.{Stage}
+use Rattle.locks.specs.declared.Stage.the-variants.{Out, Waiting, Holding}
 use Rattle.desk.specs.declared.Desk.{Desk}
-use Rattle.desk.specs.Locks.{modeNumbered}
-use Rattle.desk.specs.Desks.{Hierarchy, lent, freshDesk}
-use Rattle.desk.specs.Steps.{Admission, granted as admitted, waits as queued, EnterResult, GetResult, PutResult, LeaveResult, enterStep, getStep, putStep, leaveStep}
+use Rattle.locks.specs.Locks.{modeNumbered}
+use Rattle.locks.specs.Lent.{Hierarchy, lent}
+use Rattle.desk.specs.Steps.{granted as admitted, Admission, waits as queued}
+use Rattle.runs.specs.Run.{whole, Call, enter, get, put, leave, Step, Event, entered, got, stored as wrote, left as gone, State, start, Moved, move, Ran, run}
 
 -- the records of 16 bytes, one by one
 unfoldable pub eachRecord : ℕ → List ℕ → List (List ℕ)
@@ -54,7 +55,31 @@ stepRecords rs = keep (λ r. leb 3 (kindOf r)) rs
 abbrev pub builtOf : List (List ℕ) → Hierarchy
 builtOf rs = lent (sizeOf rs) (intervalTable (sizeOf rs) (edgeTable rs)) (edgeTable rs) (edgeCountOf rs)
 
--- A STEP. What it answers, as its line in the listing has it
+-- A STEP. What an enter record calls for
+abbrev pub enterCall : List ℕ → Call
+enterCall r = enter (partyIn r) (modeNumbered (modeIn r)) (namesIn r) (nameCountIn r)
+
+-- a get record: it is lent the values themselves
+abbrev pub getCall : List ℕ → Call
+getCall r = get (partyIn r) (nodeIn r) whole
+
+-- a put record: so is this
+abbrev pub putCall : List ℕ → Call
+putCall r = put (partyIn r) (nodeIn r) (valueIn r) whole
+
+-- a leave record: it is lent 32 zeros
+abbrev pub leaveCall : List ℕ → Call
+leaveCall r = leave (partyIn r) (replicate 32 0)
+
+-- a step record, by its kind: 3 enter, 4 get, 5 put, 6 leave
+abbrev pub callOf : List ℕ → Call
+callOf r = cond (eqb (kindOf r) 3) (enterCall r) (cond (eqb (kindOf r) 4) (getCall r) (cond (eqb (kindOf r) 5) (putCall r) (leaveCall r)))
+
+-- it is lent the tables themselves
+abbrev pub stepOf : List ℕ → Step
+stepOf r = record { intervals = whole; edges = whole; call = callOf r }
+
+-- what it answers, as its line in the listing has it
 pub data StepAnswer : Type 0 where
   granted : (cover : ℕ) → StepAnswer
   waits : StepAnswer
@@ -79,66 +104,37 @@ abbrev pub putLine : Answer (Unit {0}) → StepAnswer
 putLine (done _) = stored
 putLine (denied k) = refused k
 
--- leave's answer counts the granted parties, and lists them from byte 0 of its 32 bytes
-abbrev pub leaveLine : List ℕ → Answer ℕ → StepAnswer
-leaveLine list (done k) = left (take k list)
-leaveLine list (denied k) = refused k
+-- of leave
+abbrev pub leaveLine : Answer (List ℕ) → StepAnswer
+leaveLine (done parties) = left parties
+leaveLine (denied k) = refused k
 
--- the desk and the values between two steps
-pub record State : Type 0 where
-  pub desk : Desk
-  pub values : List ℕ
+-- of the event of a step
+abbrev pub answerIn : Event ℕ → StepAnswer
+answerIn (entered party a) = enterLine a
+answerIn (got party node a) = getLine a
+answerIn (wrote party node number a) = putLine a
+answerIn (gone party a) = leaveLine a
 
--- of these
-abbrev pub stateOf : Desk → List ℕ → State
-stateOf desk values = record { desk = desk; values = values }
+-- the hierarchy, the desk and the values between two steps
+abbrev pub stateOf : Hierarchy → Desk → List ℕ → State
+stateOf H desk values = record { hierarchy = H; desk = desk; values = values }
 
--- what a step leaves and answers
-pub record Performed : Type 0 where
-  pub state : State
-  pub answer : StepAnswer
+-- one step record performed
+abbrev pub perform : State → List ℕ → Moved
+perform s r = move (stepOf r) s
 
--- after an enter
-abbrev pub afterEnter : State → EnterResult → Performed
-afterEnter s r = record { state = record { desk = r .desk; values = s .values }; answer = enterLine (r .answer) }
+-- A WHOLE FILE. The step records one after the other
+abbrev pub performAll : State → List (List ℕ) → Ran
+performAll s rs = run (map stepOf rs) s
 
--- after a get
-abbrev pub afterGet : State → GetResult → Performed
-afterGet s r = record { state = record { desk = r .desk; values = s .values }; answer = getLine (r .answer) }
-
--- after a put
-abbrev pub afterPut : PutResult → Performed
-afterPut r = record { state = record { desk = r .desk; values = r .values }; answer = putLine (r .answer) }
-
--- after a leave
-abbrev pub afterLeave : State → LeaveResult → Performed
-afterLeave s r = record { state = record { desk = r .desk; values = s .values }; answer = leaveLine (r .list) (r .answer) }
-
--- one step record performed on the desk, by its kind: 3 enter, 4 get, 5 put, 6 leave
-unfoldable pub perform : Hierarchy → State → List ℕ → Performed
-perform H s r =
-    cond (eqb (kindOf r) 3) (afterEnter s (enterStep H (s .desk) (partyIn r) (modeNumbered (modeIn r)) (namesIn r) (nameCountIn r)))
-    (cond (eqb (kindOf r) 4) (afterGet s (getStep H (s .desk) (partyIn r) (nodeIn r) (s .values)))
-    (cond (eqb (kindOf r) 5) (afterPut (putStep H (s .desk) (partyIn r) (nodeIn r) (valueIn r) (s .values)))
-    (afterLeave s (leaveStep H (s .desk) (partyIn r) (replicate 32 0)))))
-
--- A WHOLE FILE. The steps one after the other: the state that they leave, and their answers
-pub record Ran : Type 0 where
-  pub state : State
-  pub answers : List StepAnswer
-
--- one step, and then the rest
-unfoldable pub also : Performed → Ran → Ran
-also p r = record { state = r .state; answers = p .answer ∷ r .answers }
-
--- the steps one after the other
-unfoldable pub performAll : Hierarchy → State → List (List ℕ) → Ran
-performAll H s [] = record { state = s; answers = [] }
-performAll H s (r ∷ rs) = also (perform H s r) (performAll H ((perform H s r) .state) rs)
+-- their answers
+abbrev pub answersOf : Ran → List StepAnswer
+answersOf ran = map answerIn (ran .events)
 
 -- a file starts from a fresh desk and n values of zero
-abbrev pub startOf : ℕ → State
-startOf n = record { desk = freshDesk; values = replicate n 0 }
+abbrev pub startOf : Hierarchy → ℕ → State
+startOf H n = start H (replicate n 0)
 
 -- the party is holding
 abbrev pub isHolding : Stage → Bool
@@ -161,12 +157,12 @@ pub record FileRun : Type 0 where
 -- what a run comes to
 abbrev pub fileRun : Ran → FileRun
 fileRun ran =
-    record { answers = ran .answers; holders = holdersAt (ran .state .desk); waiters = ran .state .desk .waiting; grants = ran .state .desk .grants; values = ran .state .values }
+    record { answers = answersOf ran; holders = holdersAt (ran .state .desk); waiters = ran .state .desk .waiting; grants = ran .state .desk .grants; values = ran .state .values }
 
 -- a refused hierarchy gives its number: 5 to 9
 abbrev pub runUnless : Option ℕ → List (List ℕ) → Answer FileRun
 runUnless (some k) rs = denied k
-runUnless none rs = done (fileRun (performAll (builtOf rs) (startOf (sizeOf rs)) (stepRecords rs)))
+runUnless none rs = done (fileRun (performAll (startOf (builtOf rs) (sizeOf rs)) (stepRecords rs)))
 
 -- what running the records of a file answers
 unfoldable pub runRecords : List (List ℕ) → Answer FileRun

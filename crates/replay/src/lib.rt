@@ -1,23 +1,27 @@
 // A file's records as a hierarchy and steps: n, the edge table, and one step record performed on the desk.
 ghost use mathlib.Core.Path.{_≡_};
 ghost use Prim.Native.Nat.{_+_, _*_, _≤_};
-ghost use lib.ListN.{length, replicate};
+ghost use lib.ListN.{length};
 ghost use lib.Dec.{eqb};
-ghost use Rattle.intervals.specs.Lists.{over, one};
-ghost use Rattle.blocks.specs.Inner.{overAt};
-ghost use Rattle.blocks.specs.Record.{kindOf, partyIn, modeIn, nameCountIn, namesIn, nodeIn, valueIn};
-ghost use Rattle.desk.specs.Locks.{modeNumbered};
-ghost use Rattle.desk.specs.Desks.{lent};
-ghost use Rattle.desk.specs.Steps.{enterStep, getStep, putStep, leaveStep};
+ghost use Rattle.lists.specs.Lists.{over, one};
+ghost use Rattle.octets.specs.Writes.{overAt};
+ghost use Rattle.blocks.specs.Record.{kindOf, namesIn};
+ghost use Rattle.locks.specs.Lent.{lent};
 ghost use Rattle.desk.specs.Answers.{enterMeaning, getMeaning, putMeaning, leaveMeaning};
-ghost use Rattle.replay.specs.Replay.{recordList, sizeOf, edgeTable, edgeCountOf, enterLine, getLine, putLine, stateOf, afterEnter, afterGet, afterPut, afterLeave, perform as performing};
+ghost use Rattle.replay.specs.Replay.{recordList, sizeOf, edgeTable, edgeCountOf, enterLine, getLine, putLine, enterCall, getCall, putCall, leaveCall, stateOf, perform as performing};
 ghost use Rattle.replay.specs.Answers.{EdgesInto, edgesInto, outcomeOf, Performs};
-ghost use Rattle.replay.specs.Inner.{recordAt, edgeOf, leftOutcome, PerformsAny};
+ghost use Rattle.replay.specs.Inner.{recordAt, edgeOf, leftOutcome, PerformsCall, PerformsAny};
 use desk::Desk;
 use desk::EnterAnswer;
 use desk::GetAnswer;
 use desk::LeaveAnswer;
 use desk::PutAnswer;
+
+// Bytes of a record.
+const RECORD: usize = blocks::RECORD;
+
+// Parties of a desk.
+const PARTIES: usize = arrivals::PARTIES;
 
 // What a step of a file answers, one value for the four kinds. `Left` counts the granted parties, which stand first in `Step::parties`.
 pub enum Outcome {
@@ -33,7 +37,7 @@ pub enum Outcome {
 pub struct Step {
     pub desk: Desk,
     pub outcome: Outcome,
-    pub parties: [u8; 32],
+    pub parties: [u8; PARTIES],
 }
 
 // What taking the edge table from the records answers: the count of edges.
@@ -46,10 +50,10 @@ pub enum EdgesAnswer {
 pub fn size(records: &[u8]) -> usize
     ensures { λ r. ⌜ r ≡ sizeOf (recordList (now (records .entry))) ⌝ }
 {
-    if records.len() < 16 {
+    if records.len() < RECORD {
         return 0;
     }
-    blocks::number2(1, records) as usize
+    octets::number2(records, 1) as usize
 }
 
 // 1 where record i is an edge, and 0 where it is not.
@@ -57,7 +61,7 @@ fn edge_at(records: &[u8], i: usize) -> usize
     requires { ⌜ 16 * i + 16 ≤ length (now records) ⌝ }
     ensures { λ r. ⌜ r ≡ one (eqb (kindOf (recordAt (now (records .entry)) i)) 2) ⌝ }
 {
-    if blocks::byte(16 * i, records) == 2 {
+    if octets::byte(records, RECORD * i) == 2 {
         return 1;
     }
     0
@@ -67,7 +71,7 @@ fn edge_at(records: &[u8], i: usize) -> usize
 fn edge_count(records: &[u8]) -> usize
     ensures { λ r. ⌜ r ≡ edgeCountOf (recordList (now (records .entry))) ⌝ }
 {
-    let total = records.len() / 16;
+    let total = records.len() / RECORD;
     let mut count = 0;
     let mut i = 0;
     while i < total {
@@ -82,11 +86,11 @@ fn put_edge(records: &[u8], i: usize, at: usize, table: &mut [u16]) -> usize
     requires { ⌜ (16 * i + 16 ≤ length (now records)) × (at + length (edgeOf (recordAt (now records) i)) ≤ length (now table)) ⌝ }
     ensures { λ r. ⌜ (r ≡ at + length (edgeOf (recordAt (now (records .entry)) i))) × (now (table .exit) ≡ overAt at (edgeOf (recordAt (now (records .entry)) i)) (now (table .entry))) ⌝ }
 {
-    if blocks::byte(16 * i, records) != 2 {
+    if octets::byte(records, RECORD * i) != 2 {
         return at;
     }
-    table[at] = blocks::byte(16 * i + 1, records) as u16;
-    table[at + 1] = blocks::byte(16 * i + 2, records) as u16;
+    table[at] = octets::byte(records, RECORD * i + 1) as u16;
+    table[at + 1] = octets::byte(records, RECORD * i + 2) as u16;
     at + 2
 }
 
@@ -95,7 +99,7 @@ fn put_edges(records: &[u8], table: &mut [u16])
     requires { ⌜ 2 * edgeCountOf (recordList (now records)) ≤ length (now table) ⌝ }
     ensures { λ _. ⌜ now (table .exit) ≡ over (edgeTable (recordList (now (records .entry)))) (now (table .entry)) ⌝ }
 {
-    let total = records.len() / 16;
+    let total = records.len() / RECORD;
     let mut at = 0;
     let mut i = 0;
     while i < total {
@@ -127,7 +131,7 @@ fn wide(x: u8) -> usize
 fn names_in(bytes: &[u8]) -> usize
     ensures { λ r. ⌜ (r ≡ length (namesIn (now (bytes .entry)))) × (r ≤ 255) ⌝ }
 {
-    let named = wide(blocks::byte(3, bytes));
+    let named = wide(octets::byte(bytes, 3));
     if bytes.len() < 4 {
         return 0;
     }
@@ -145,7 +149,7 @@ fn put_names(bytes: &[u8], names: &mut [u16]) -> usize
     let count = names_in(bytes);
     let mut i = 0;
     while i < count {
-        names[i] = blocks::byte(i + 4, bytes) as u16;
+        names[i] = octets::byte(bytes, i + 4) as u16;
         i += 1;
     }
     count
@@ -199,24 +203,33 @@ fn perform_enter(
     n: usize,
     intervals: &[u16],
     edges: &[u16],
-    count: usize,
+    edge_count: usize,
     bytes: &[u8],
 ) -> Step
-    ensures { λ r. ⌜ PerformsAny r (λ values. afterEnter (stateOf desk values) (enterStep (lent n (now (intervals .entry)) (now (edges .entry)) count) desk (partyIn (now (bytes .entry))) (modeNumbered (modeIn (now (bytes .entry)))) (namesIn (now (bytes .entry))) (nameCountIn (now (bytes .entry))))) ⌝ }
+    ensures { λ r. ⌜ PerformsAny r (lent n (now (intervals .entry)) (now (edges .entry)) «edge_count») desk (enterCall (now (bytes .entry))) ⌝ }
 {
-    let party = blocks::byte(1, bytes) as usize;
-    let mode = desk::mode_numbered(blocks::byte(2, bytes) as u32);
-    let named = blocks::byte(3, bytes) as usize;
+    let party = octets::byte(bytes, 1) as usize;
+    let mode = locks::mode_numbered(octets::byte(bytes, 2) as u32);
+    let named = octets::byte(bytes, 3) as usize;
     let mut names = [0u16; 255];
     let k = put_names(bytes, &mut names);
-    let step = desk.enter(n, intervals, edges, count, party, mode, &names[..k], named);
+    let step = desk.enter(
+        n,
+        intervals,
+        edges,
+        edge_count,
+        party,
+        mode,
+        &names[..k],
+        named,
+    );
     let answer = step.answer;
     let outcome = entered(answer);
     let next = step.desk;
     Step {
         desk: next,
         outcome,
-        parties: [0u8; 32],
+        parties: [0u8; PARTIES],
     }
 }
 
@@ -226,15 +239,15 @@ fn perform_get(
     n: usize,
     intervals: &[u16],
     edges: &[u16],
-    count: usize,
+    edge_count: usize,
     bytes: &[u8],
     values: &[u64],
 ) -> Step
-    ensures { λ r. ⌜ Performs r (now (values .entry)) (afterGet (stateOf desk (now (values .entry))) (getStep (lent n (now (intervals .entry)) (now (edges .entry)) count) desk (partyIn (now (bytes .entry))) (nodeIn (now (bytes .entry))) (now (values .entry)))) ⌝ }
+    ensures { λ r. ⌜ PerformsCall r (lent n (now (intervals .entry)) (now (edges .entry)) «edge_count») desk (getCall (now (bytes .entry))) (now (values .entry)) (now (values .entry)) ⌝ }
 {
-    let party = blocks::byte(1, bytes) as usize;
-    let node = blocks::byte(2, bytes) as usize;
-    let step = desk.get(n, intervals, edges, count, party, node, values);
+    let party = octets::byte(bytes, 1) as usize;
+    let node = octets::byte(bytes, 2) as usize;
+    let step = desk.get(n, intervals, edges, edge_count, party, node, values);
     let next = step.desk;
     let answer = step.answer;
     let GetAnswer::Value(v) = answer else {
@@ -242,13 +255,13 @@ fn perform_get(
         return Step {
             desk: next,
             outcome,
-            parties: [0u8; 32],
+            parties: [0u8; PARTIES],
         };
     };
     Step {
         desk: next,
         outcome: Outcome::Value(v),
-        parties: [0u8; 32],
+        parties: [0u8; PARTIES],
     }
 }
 
@@ -258,23 +271,23 @@ fn perform_put(
     n: usize,
     intervals: &[u16],
     edges: &[u16],
-    count: usize,
+    edge_count: usize,
     bytes: &[u8],
     values: &mut [u64],
 ) -> Step
-    ensures { λ r. ⌜ Performs r (now (values .exit)) (afterPut (putStep (lent n (now (intervals .entry)) (now (edges .entry)) count) desk (partyIn (now (bytes .entry))) (nodeIn (now (bytes .entry))) (valueIn (now (bytes .entry))) (now (values .entry)))) ⌝ }
+    ensures { λ r. ⌜ PerformsCall r (lent n (now (intervals .entry)) (now (edges .entry)) «edge_count») desk (putCall (now (bytes .entry))) (now (values .entry)) (now (values .exit)) ⌝ }
 {
-    let party = blocks::byte(1, bytes) as usize;
-    let node = blocks::byte(2, bytes) as usize;
-    let value = blocks::number8(4, bytes);
-    let step = desk.put(n, intervals, edges, count, party, node, value, values);
+    let party = octets::byte(bytes, 1) as usize;
+    let node = octets::byte(bytes, 2) as usize;
+    let value = octets::number8(bytes, 4);
+    let step = desk.put(n, intervals, edges, edge_count, party, node, value, values);
     let answer = step.answer;
     let outcome = stored(answer);
     let next = step.desk;
     Step {
         desk: next,
         outcome,
-        parties: [0u8; 32],
+        parties: [0u8; PARTIES],
     }
 }
 
@@ -284,14 +297,14 @@ fn perform_leave(
     n: usize,
     intervals: &[u16],
     edges: &[u16],
-    count: usize,
+    edge_count: usize,
     bytes: &[u8],
 ) -> Step
-    ensures { λ r. ⌜ PerformsAny r (λ values. afterLeave (stateOf desk values) (leaveStep (lent n (now (intervals .entry)) (now (edges .entry)) count) desk (partyIn (now (bytes .entry))) (replicate 32 0))) ⌝ }
+    ensures { λ r. ⌜ PerformsAny r (lent n (now (intervals .entry)) (now (edges .entry)) «edge_count») desk (leaveCall (now (bytes .entry))) ⌝ }
 {
-    let party = blocks::byte(1, bytes) as usize;
-    let mut parties = [0u8; 32];
-    let step = desk.leave(n, intervals, edges, count, party, &mut parties);
+    let party = octets::byte(bytes, 1) as usize;
+    let mut parties = [0u8; PARTIES];
+    let step = desk.leave(n, intervals, edges, edge_count, party, &mut parties);
     let answer = step.answer;
     let outcome = left(answer);
     let next = step.desk;
@@ -308,21 +321,21 @@ pub fn perform(
     n: usize,
     intervals: &[u16],
     edges: &[u16],
-    count: usize,
+    edge_count: usize,
     bytes: &[u8],
     values: &mut [u64],
 ) -> Step
-    ensures { λ r. ⌜ Performs r (now (values .exit)) (performing (lent n (now (intervals .entry)) (now (edges .entry)) count) (stateOf desk (now (values .entry))) (now (bytes .entry))) ⌝ }
+    ensures { λ r. ⌜ Performs r (now (values .exit)) (performing (stateOf (lent n (now (intervals .entry)) (now (edges .entry)) «edge_count») desk (now (values .entry))) (now (bytes .entry))) ⌝ }
 {
-    let kind = blocks::byte(0, bytes);
+    let kind = octets::byte(bytes, 0);
     if kind == 3 {
-        return perform_enter(desk, n, intervals, edges, count, bytes);
+        return perform_enter(desk, n, intervals, edges, edge_count, bytes);
     }
     if kind == 4 {
-        return perform_get(desk, n, intervals, edges, count, bytes, values);
+        return perform_get(desk, n, intervals, edges, edge_count, bytes, values);
     }
     if kind == 5 {
-        return perform_put(desk, n, intervals, edges, count, bytes, values);
+        return perform_put(desk, n, intervals, edges, edge_count, bytes, values);
     }
-    perform_leave(desk, n, intervals, edges, count, bytes)
+    perform_leave(desk, n, intervals, edges, edge_count, bytes)
 }

@@ -9,18 +9,20 @@ use lib.Dec.{eqb}
 use lib.ListN.{length, getD, set, take, drop, take-append-drop, length-set, length-append, List·getD-append}
 use lib.Seq.{getD-set-same, getD-set-other, take-append-le, take-append-seam, getD-append-seam}
 use borrow.Author.Tests.{eqb-true, eqb-false, ne-eqb, not-true}
-use Rattle.intervals.specs.Lists.{keep}
-use Rattle.intervals.proofs.Bools.{bool, not-both}
-use Rattle.intervals.proofs.Bounded.{any-stop, any-none}
-use Rattle.intervals.proofs.Members.{In}
-use Rattle.intervals.proofs.Distinct.{any-some, any-alike, place-in, in-front, in-between, in-around, in-either, in-keep, keep-in, Distinct, distinct-last, distinct-between, distinct-keep}
-use Rattle.desk.specs.declared.Lock.{Lock}
-use Rattle.desk.specs.declared.Stage.{Stage}
-use Rattle.desk.specs.declared.Stage.the-variants.{Out, Waiting, Holding}
-use Rattle.desk.specs.declared.Entry.{Entry}
-use Rattle.desk.specs.Locks.{conflict, realInterval}
-use Rattle.desk.specs.Desks.{Hierarchy, entryOf, stageIn, isWaiting, againstHolder, againstWaiter, meetsHolder}
-use Rattle.desk.specs.Sound.{ofLock, coverRight, heldUp}
+use Rattle.lists.specs.Lists.{keep}
+use Rattle.lists.proofs.Bools.{bool, not-both}
+use Rattle.lists.proofs.Bounded.{any-stop, any-none}
+use Rattle.lists.proofs.Members.{In}
+use Rattle.lists.proofs.Distinct.{any-some, any-alike, place-in, in-front, in-between, in-around, in-either, in-keep, keep-in, Distinct, distinct-last, distinct-between, distinct-keep}
+use Rattle.locks.specs.declared.Lock.{Lock}
+use Rattle.locks.specs.declared.Stage.{Stage}
+use Rattle.locks.specs.declared.Stage.the-variants.{Out, Waiting, Holding}
+use Rattle.locks.specs.Locks.{conflict, realInterval}
+use Rattle.locks.specs.Stages.{isWaiting, againstHolder, againstWaiter, ofLock}
+use Rattle.locks.specs.Lent.{Hierarchy, coverRight}
+use Rattle.parties.specs.declared.Entry.{Entry}
+use Rattle.parties.specs.Parties.{entryOf, stageIn, meetsHolder}
+use Rattle.parties.specs.Sound.{heldUp}
 use Rattle.history.proofs.Facts.{set-stage, holder-below, conflict-sym}
 use Rattle.soundness.proofs.Orderly.{Orderly, HeldUp}
 

@@ -10,33 +10,32 @@ use lib.Dec.{leb, ltb}
 use lib.ListN.{length, take}
 use lib.Seq.{length-take-le}
 use borrow.Author.Tests.{leb-true, ltb-true, ltb-false, not-false}
-use Rattle.intervals.specs.Lists.{anyBelow, any}
-use Rattle.intervals.specs.Answer.{Answer, done, refused, _when_}
-use Rattle.intervals.specs.Cover.{intervalAt, callInterval, IsCover}
-use Rattle.intervals.specs.declared.Interval.{Interval}
-use Rattle.intervals.proofs.Bools.{bool, not-both, and-left, and-right, or-left, or-right}
-use Rattle.intervals.proofs.Refusals.{NoneHolds, refusal-none}
-use Rattle.intervals.proofs.Members.{In, head}
-use Rattle.intervals.proofs.Distinct.{any-in}
+use Rattle.lists.specs.Lists.{anyBelow, any}
+use Rattle.lists.specs.Answer.{Answer, done, refused, Check}
+use Rattle.covers.specs.Cover.{intervalAt, callInterval, IsCover}
+use Rattle.covers.specs.declared.Interval.{Interval}
+use Rattle.lists.proofs.Bools.{bool, not-both, and-left, or-left, or-right}
+use Rattle.lists.proofs.Refusals.{refusal-none}
+use Rattle.lists.proofs.Members.{In, head}
+use Rattle.lists.proofs.Distinct.{any-in}
 use Rattle.interval_laws.specs.Covers.{Rooted}
 use Rattle.interval_laws.proofs.Covers.{contains-by, cover-is, one-name-again}
-use Rattle.desk.specs.declared.Mode.{Mode}
-use Rattle.desk.specs.declared.Lock.{Lock}
-use Rattle.desk.specs.declared.Stage.the-variants.{Waiting, Holding}
+use Rattle.locks.specs.declared.Mode.{Mode}
+use Rattle.locks.specs.declared.Lock.{Lock}
+use Rattle.locks.specs.declared.Stage.the-variants.{Waiting, Holding}
 use Rattle.desk.specs.declared.Desk.{Desk}
-use Rattle.desk.specs.Desks.{Hierarchy, lowIn, highIn, coverIn, stageAt, isOut}
-use Rattle.desk.specs.Sound.{soundDesk}
-use Rattle.desk.specs.Steps.{tablesShort, intervalWrong, stepChecks, Admission, granted, waits, namesWrong, enterRefusal, lockOn, free, enterIf, enterUnless, enterStep}
-use Rattle.desk.proofs.Judging.{not-wrong}
+use Rattle.locks.specs.Lent.{Hierarchy, lowIn, highIn, coverIn, intervalWrong, namesWrong, lockOn}
+use Rattle.locks.proofs.Tables.{not-wrong}
+use Rattle.desk.specs.Desks.{stageAt}
+use Rattle.desk.specs.Steps.{enterOwn, granted, StepFacts, Admission, waits, enterRefusal, free, enterIf, enterUnless, enterStep}
+use Rattle.desk.proofs.Facts.{step-own, step-facts}
+use Rattle.history.proofs.Facts.{right-ordered}
 use Rattle.soundness.proofs.Changes.{stage-same}
 
 -- where refusal 10 finds no interval wrong, the intervals are rooted
 pub right-rooted : (H : Hierarchy) → anyBelow (H .n) (intervalWrong H) ≡ false → Rooted (H .n) (H .intervals)
 right-rooted H fine = record {
-  ordered = λ node h.
-      let low = lowIn H node in
-      let high = highIn H node in
-      leb-true low high (and-right (leb 1 low) (leb low high) (and-left (leb 1 low && leb low high) (leb high 256) (not-wrong H node fine h .0)));
+  ordered = right-ordered H fine;
   in-root = λ node h. let i = not-wrong H node fine h in contains-by (intervalAt (H .intervals) 0) (intervalAt (H .intervals) node) (i .1) (i .2);
 }
 
@@ -50,22 +49,29 @@ module _ (H : Hierarchy) (d : Desk) (party : ℕ) (mode : Mode) (names : List �
   abbrev lock : Lock
   lock = lockOn H mode (coverIn H called)
 
-  none-holds : NoneHolds (stepChecks H d party (ltb (length names) nameCount) (12 when not (isOut (stageAt d party)) ∷ 15 when namesWrong (H .n) names nameCount ∷ []))
-  none-holds = refusal-none _ fine
+  -- what it alone looks at
+  abbrev own : List Check
+  own = enterOwn H d party names nameCount
+
+  facts : StepFacts H d party (ltb (length names) nameCount)
+  facts = step-facts H d party _ own fine
+
+  -- 15 does not hold
+  named : namesWrong (H .n) names nameCount ≡ false
+  named = refusal-none own (step-own H d party _ own fine) .1 .0
 
   rooted : Rooted (H .n) (H .intervals)
-  rooted = right-rooted H (or-left (anyBelow (H .n) (intervalWrong H)) (not (soundDesk H d)) (none-holds .1 .1 .1 .1 .0))
+  rooted = right-rooted H (facts .intervals-right)
 
   some-name : 1 ≤ length called
   some-name =
-      let long = ltb-false (length names) nameCount (or-right (tablesShort H) (ltb (length names) nameCount) (none-holds .0)) in
-      let right = not-false (leb 1 nameCount && leb nameCount 8)
-      (or-left (not (leb 1 nameCount && leb nameCount 8)) (any (λ node. not (ltb node (H .n))) called) (none-holds .1 .1 .1 .1 .1 .1 .1 .0)) in
+      let long = ltb-false (length names) nameCount (facts .own-lent) in
+      let right = not-false (leb 1 nameCount && leb nameCount 8) (or-left (not (leb 1 nameCount && leb nameCount 8)) (any (λ node. not (ltb node (H .n))) called) named) in
       omega (arith, length-take-le nameCount names long, leb-true 1 nameCount (and-left (leb 1 nameCount) (leb nameCount 8) right))
 
   nodes : (r : ℕ) → In r called → r < H .n
   nodes r i =
-      let right = or-right (not (leb 1 nameCount && leb nameCount 8)) (any (λ node. not (ltb node (H .n))) called) (none-holds .1 .1 .1 .1 .1 .1 .1 .0) in
+      let right = or-right (not (leb 1 nameCount && leb nameCount 8)) (any (λ node. not (ltb node (H .n))) called) named in
       bool (ltb r (H .n))
       (ltb-true r (H .n))
       (λ e. not-both (any (λ node. not (ltb node (H .n))) called) (any-in (λ node. not (ltb node (H .n))) i (ap not e)) right)
@@ -77,7 +83,7 @@ module _ (H : Hierarchy) (d : Desk) (party : ℕ) (mode : Mode) (names : List �
   enter-stage long = rw fine (by (free d lock))
     where
       here : party < length (d .entries)
-      here = let k = ltb-false 31 party (none-holds .1 .1 .1 .1 .1 .0) in omega (arith, long)
+      here = omega (arith, long, facts .party-below)
 
       by : (b : Bool) → (stageAt ((enterIf b d party lock) .desk) party ≡ Holding lock) ⊎ (stageAt ((enterIf b d party lock) .desk) party ≡ Waiting lock)
       by true = inl (stage-same (d .entries) party (Holding lock) here)

@@ -9,31 +9,38 @@ use native.Mathlib.Omega.{arith}
 use lib.Dec.{eqb, ltb}
 use lib.ListN.{length, set, take, length-set, length-append}
 use lib.Seq.{append-snoc}
-use borrow.Author.Tests.{eq-eqb, ltb-false, lt-ltb, not-true, not-false}
-use Rattle.intervals.specs.Lists.{anyBelow, keep}
-use Rattle.intervals.specs.Answer.{Check, _when_}
-use Rattle.intervals.specs.Cover.{callInterval}
-use Rattle.intervals.proofs.Bools.{bool, not-both, or-left}
-use Rattle.intervals.proofs.Refusals.{NoneHolds, refusal-none}
-use Rattle.intervals.proofs.Bounded.{any-stop, any-none, none-of}
-use Rattle.intervals.proofs.Members.{In}
-use Rattle.intervals.proofs.Distinct.{any-some, any-in, in-front, in-between, distinct-between}
-use Rattle.intervals.proofs.Legals.{right-size}
-use Rattle.intervals.proofs.Covers.{closest-below}
-use Rattle.desk.specs.declared.Mode.{Mode}
-use Rattle.desk.specs.declared.Lock.{Lock}
-use Rattle.desk.specs.declared.Stage.{Stage}
-use Rattle.desk.specs.declared.Stage.the-variants.{Out, Waiting, Holding}
-use Rattle.desk.specs.declared.Entry.{Entry}
+use borrow.Author.Tests.{eq-eqb, lt-ltb, not-true, not-false}
+use Rattle.lists.specs.Lists.{keep}
+use Rattle.lists.specs.Answer.{Check}
+use Rattle.hierarchy.specs.Hierarchy.{sizeWrong}
+use Rattle.covers.specs.Cover.{callInterval}
+use Rattle.lists.proofs.Bools.{bool, not-both, or-left}
+use Rattle.lists.proofs.Refusals.{refusal-none}
+use Rattle.lists.proofs.Bounded.{any-stop, any-none, none-of}
+use Rattle.lists.proofs.Members.{In}
+use Rattle.lists.proofs.Distinct.{any-some, any-in, in-front, in-between, distinct-between}
+use Rattle.hierarchy.proofs.Legals.{right-size}
+use Rattle.covers.proofs.Covers.{closest-below}
+use Rattle.locks.specs.declared.Mode.{Mode}
+use Rattle.locks.specs.declared.Lock.{Lock}
+use Rattle.locks.specs.declared.Stage.{Stage}
+use Rattle.locks.specs.declared.Stage.the-variants.{Out, Waiting, Holding}
+use Rattle.locks.specs.Locks.{realInterval}
+use Rattle.locks.specs.Lent.{Hierarchy, lowIn, highIn, coverIn, coverRight, lockOn}
+use Rattle.locks.specs.Stages.{isOut, isWaiting, againstHolder, againstWaiter}
+use Rattle.locks.proofs.Tables.{not-wrong}
+use Rattle.parties.specs.declared.Entry.{Entry}
+use Rattle.parties.specs.Parties.{entryOf, stageIn, meetsHolder, meetsWaiter}
+use Rattle.parties.specs.Sweeps.{Sweep, offerIf, offerTo, offer, sweep}
+use Rattle.arrivals.proofs.Queues.{places-length}
 use Rattle.desk.specs.declared.Desk.{Desk}
-use Rattle.desk.specs.Locks.{realInterval}
-use Rattle.desk.specs.Desks.{Hierarchy, lowIn, highIn, coverIn, entryOf, stageIn, stageAt, isOut, isWaiting, queueOf, freshDesk, againstHolder, againstWaiter, meetsHolder, meetsWaiter}
-use Rattle.desk.specs.Sound.{coverRight, soundDesk}
-use Rattle.desk.specs.Steps.{intervalWrong, stepChecks, lockOn, free, grantTo, queueLast, namesWrong, enterRefusal, enterIf, enterUnless, enterStep, getStep, putStep, Sweep, offerIf, offerTo, offer, sweep, afterLeaving, leaveWith, leaveRefusal, leaveUnless, leaveStep}
-use Rattle.desk.proofs.Judging.{not-wrong}
+use Rattle.desk.specs.Desks.{stageAt, queueOf, freshDesk}
+use Rattle.desk.specs.Sound.{soundDesk}
+use Rattle.desk.specs.Steps.{leaveOwn, enterOwn, free, grantTo, queueLast, enterRefusal, enterIf, enterUnless, enterStep, getStep, putStep, afterLeaving, leaveWith, leaveRefusal, leaveUnless, leaveStep}
+use Rattle.desk.proofs.Facts.{step-own, step-facts}
 use Rattle.history.proofs.Facts.{sweep-length}
 use Rattle.soundness.proofs.Laws.{unchanged-get, unchanged-put}
-use Rattle.soundness.proofs.Orderly.{Shaped, Reads, Orderly, HeldUp, sound-reads, places-long, sound-orderly, sound-held, made-sound}
+use Rattle.soundness.proofs.Orderly.{Shaped, Reads, Orderly, HeldUp, sound-reads, sound-orderly, sound-held, made-sound}
 use Rattle.soundness.proofs.Changes.{stage-same, stage-other, waits-apart, called, ended, admitted, granted, still-meets, up-set, up-last}
 
 -- SHAPE: a fresh desk has it
@@ -50,8 +57,8 @@ enter-shaped H d party mode names nameCount shape = by (enterRefusal H d party n
     l = lockOn H mode (coverIn H (take nameCount names))
 
     test : (b : Bool) → Shaped ((enterIf b d party l) .desk)
-    test true = record { entries = length-set (d .entries) party (entryOf (Holding l)) ∙ shape .entries; queue = places-long (queueOf d) }
-    test false = record { entries = length-set (d .entries) party (entryOf (Waiting l)) ∙ shape .entries; queue = places-long (queueOf d ++ (party ∷ [])) }
+    test true = record { entries = length-set (d .entries) party (entryOf (Holding l)) ∙ shape .entries; queue = places-length (queueOf d) }
+    test false = record { entries = length-set (d .entries) party (entryOf (Waiting l)) ∙ shape .entries; queue = places-length (queueOf d ++ (party ∷ [])) }
 
     by : (o : Option ℕ) → Shaped ((enterUnless o d party l) .desk)
     by (some k) = shape
@@ -76,22 +83,12 @@ leave-shaped H d party list shape = by (leaveRefusal H d party list)
           sweep-length (keep (λ other. not (eqb other party)) (queueOf d)) (record { entries = set (d .entries) party (entryOf Out); stay = []; granted = [] })
           ∙ length-set (d .entries) party (entryOf Out)
           ∙ shape .entries;
-      queue = places-long ((afterLeaving d party) .stay);
+      queue = places-length ((afterLeaving d party) .stay);
     }
 
--- WHAT AN UNREFUSED STEP KNOWS of its tables and its party
-record Checked (H : Hierarchy) (party : ℕ) : Type 0 where
-  cover-below : (names : List ℕ) → coverIn H names < H .n
-  real : (node : ℕ) → node < H .n → realInterval (lowIn H node) (highIn H node) ≡ true
-  party-below : party < 32
-
--- a cover is a node: it is looked for among the n nodes, and there is one
-checked : (H : Hierarchy) (d : Desk) (party : ℕ) (short : Bool) (own : List Check) → NoneHolds (stepChecks H d party short own) → Checked H party
-checked H d party short own f = record {
-  cover-below = λ names. closest-below (H .intervals) (callInterval (H .intervals) names) (H .n) (right-size (H .n) (f .1 .0) .0);
-  real = λ node h. not-wrong H node (or-left (anyBelow (H .n) (intervalWrong H)) (not (soundDesk H d)) (f .1 .1 .1 .1 .0)) h .0;
-  party-below = let k = ltb-false 31 party (f .1 .1 .1 .1 .1 .0) in omega arith;
-}
+-- THE COVER of names is a node, of n nodes that refusal 5 found right: it is looked for among them, and there is one
+cover-below : (H : Hierarchy) (names : List ℕ) → sizeWrong (H .n) ≡ false → coverIn H names < H .n
+cover-below H names sized = closest-below (H .intervals) (callInterval (H .intervals) names) (H .n) (right-size (H .n) sized .0)
 
 -- ENTER, of a party that is out, with a lock whose interval and cover are right
 is-out : (x : Stage) → isOut x ≡ true → x ≡ Out
@@ -170,12 +167,12 @@ enter-sound H d party mode names nameCount shape sound = by (enterRefusal H d pa
     by : (o : Option ℕ) → enterRefusal H d party names nameCount ≡ o → soundDesk H ((enterUnless o d party (lockOn H mode cover)) .desk) ≡ true
     by (some k) e = sound
     by none e =
-        let own : List Check = 12 when not (isOut (stageAt d party)) ∷ 15 when namesWrong (H .n) names nameCount ∷ [] in
-        let f = refusal-none (stepChecks H d party (ltb (length names) nameCount) own) e in
-        let c = checked H d party (ltb (length names) nameCount) own f in
-        let b : cover < H .n = c .cover-below (take nameCount names) in
-        enter-if H d party (lockOn H mode cover) shape sound (c .party-below) (is-out (stageAt d party) (not-false (isOut (stageAt d party)) (f .1 .1 .1 .1 .1 .1 .0)))
-        (c .real cover b)
+        let own : List Check = enterOwn H d party names nameCount in
+        let f = step-facts H d party (ltb (length names) nameCount) own e in
+        let out = refusal-none own (step-own H d party (ltb (length names) nameCount) own e) .0 in
+        let b : cover < H .n = cover-below H (take nameCount names) (f .sized) in
+        enter-if H d party (lockOn H mode cover) shape sound (f .party-below) (is-out (stageAt d party) (not-false (isOut (stageAt d party)) out))
+        (not-wrong H cover (f .intervals-right) b .0)
         (rw (lt-ltb cover (H .n) b, eq-eqb (lowIn H cover) (lowIn H cover) refl, eq-eqb (highIn H cover) (highIn H cover) refl))
         (free d (lockOn H mode cover)) refl
 
@@ -232,12 +229,12 @@ leave-sound H d party list shape sound = by (leaveRefusal H d party list) refl
     by : (o : Option ℕ) → leaveRefusal H d party list ≡ o → soundDesk H ((leaveUnless o d party list) .desk) ≡ true
     by (some k) e = sound
     by none e =
-        let own : List Check = 13 when isOut (stageAt d party) ∷ [] in
-        let c = checked H d party (ltb (length list) 32) own (refusal-none (stepChecks H d party (ltb (length list) 32) own) e) in
+        let own : List Check = leaveOwn d party in
+        let f = step-facts H d party (ltb (length list) 32) own e in
         let g : Going H (afterLeaving d party) [] =
         sweep-going H (keep (λ other. not (eqb other party)) (queueOf d)) (record { entries = set (d .entries) party (entryOf Out); stay = []; granted = [] })
         (record {
-          orderly = ended H (d .entries) (queueOf d) party (sound-orderly H d (queueOf d) (sound-reads H d shape sound) (shape .entries) sound) (c .party-below);
+          orderly = ended H (d .entries) (queueOf d) party (sound-orderly H d (queueOf d) (sound-reads H d shape sound) (shape .entries) sound) (f .party-below);
           held = λ i h. absurd (omega arith);
         }) in
         made-sound H ((leaveWith (afterLeaving d party) d list) .desk) (afterLeaving d party .stay) refl refl (rw append-nil at (g .orderly)) (g .held)

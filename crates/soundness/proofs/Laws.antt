@@ -1,19 +1,21 @@
 -- THEOREMS about the desk: a refused step changes nothing, and a fresh desk is sound. Assumes nothing.
-use mathlib.Core.Path.{_≡_, refl, sym, ap, _∙_}
-use mathlib.Core.List.{List, [], _∷_}
+use mathlib.Core.Path.{_≡_, refl}
+use mathlib.Core.List.{List, []}
 use mathlib.Core.Bool.{Bool, true, false}
 use mathlib.Core.Option.{Option, none, some}
-use Prim.Native.Nat.{ℕ, zero, suc}
+use Prim.Native.Nat.{ℕ}
 use lib.ListN.{getD, take}
-use Rattle.intervals.specs.Lists.{allBelow}
-use Rattle.intervals.specs.Answer.{Answer, done, refused, _when_, refusal}
-use Rattle.intervals.proofs.Bools.{not-both}
-use Rattle.desk.specs.declared.Mode.{Mode}
-use Rattle.desk.specs.declared.Lock.{Lock}
+use Rattle.lists.specs.Lists.{allBelow}
+use Rattle.lists.specs.Answer.{refused, refusal}
+use Rattle.lists.proofs.Bools.{not-both}
+use Rattle.locks.specs.declared.Mode.{Mode}
+use Rattle.locks.specs.declared.Lock.{Lock}
+use Rattle.locks.specs.Lent.{Hierarchy, coverIn, lockOn}
 use Rattle.desk.specs.declared.Desk.{Desk}
-use Rattle.desk.specs.Desks.{Hierarchy, freshDesk, coverIn, stageAt}
+use Rattle.desk.specs.Desks.{freshDesk}
+use Rattle.parties.specs.Sound.{soundParties}
 use Rattle.desk.specs.Sound.{soundDesk}
-use Rattle.desk.specs.Steps.{free, lockOn, enterRefusal, enterIf, enterUnless, enterStep, valueChecks, getUnless, getStep, readsOnly, putUnless, putStep, leaveRefusal, leaveUnless, leaveStep}
+use Rattle.desk.specs.Steps.{putOwn, free, enterRefusal, enterIf, enterUnless, enterStep, valueChecks, getUnless, getStep, putUnless, putStep, leaveRefusal, leaveUnless, leaveStep}
 
 -- A REFUSED STEP CHANGES NOTHING: the desk handed back is the one given, and so is every buffer
 pub refused-enter : (H : Hierarchy) (d : Desk) (party : ℕ) (mode : Mode) (names : List ℕ) (nameCount k : ℕ)
@@ -41,7 +43,7 @@ unchanged-get H d party node values = by (refusal (valueChecks H d party node va
 -- put changes no desk in any case
 pub unchanged-put : (H : Hierarchy) (d : Desk) (party node value : ℕ) (values : List ℕ) → (putStep H d party node value values) .desk ≡ d
 unfolding putStep
-unchanged-put H d party node value values = by (refusal (valueChecks H d party node values (17 when readsOnly (stageAt d party) ∷ [])))
+unchanged-put H d party node value values = by (refusal (valueChecks H d party node values (putOwn d party)))
   where
     by : (o : Option ℕ) → (putUnless o d node value values) .desk ≡ d
     by (some j) = refl
@@ -50,7 +52,7 @@ unchanged-put H d party node value values = by (refusal (valueChecks H d party n
 pub refused-put : (H : Hierarchy) (d : Desk) (party node value k : ℕ) (values : List ℕ) → (putStep H d party node value values) .answer ≡ refused k
     → (putStep H d party node value values) .values ≡ values
 unfolding putStep
-refused-put H d party node value k values e = by (refusal (valueChecks H d party node values (17 when readsOnly (stageAt d party) ∷ []))) e
+refused-put H d party node value k values e = by (refusal (valueChecks H d party node values (putOwn d party))) e
   where
     by : (o : Option ℕ) → (putUnless o d node value values) .answer ≡ refused k → (putUnless o d node value values) .values ≡ values
     by (some j) e = refl
@@ -67,5 +69,5 @@ refused-leave H d party k list e = by (leaveRefusal H d party list) e
 
 -- A FRESH DESK IS SOUND, over every hierarchy whatever, so over every built one
 pub fresh-sound : (H : Hierarchy) → soundDesk H freshDesk ≡ true
-unfolding soundDesk allBelow
+unfolding soundParties allBelow
 fresh-sound H = refl

@@ -3,37 +3,42 @@ use mathlib.Core.Path.{_≡_, refl, sym, ap, _∙_}
 use mathlib.Core.List.{List, [], _∷_}
 use mathlib.Core.Bool.{Bool, true, false, not, _&&_, _||_, and-true}
 use mathlib.Core.Option.{Option, none, some}
-use Prim.Native.Nat.{ℕ, _+_, _*_, _<_}
+use Prim.Native.Nat.{ℕ, _*_, _<_}
 use native.Mathlib.Omega.{arith}
 use lib.Dec.{eqb, ltb}
 use lib.ListN.{length, getD, take}
 use borrow.Author.Tests.{ltb-true, ltb-false, le-ltb, le-leb}
-use Rattle.intervals.specs.Lists.{anyBelow, any}
-use Rattle.intervals.specs.Answer.{Check, _when_, refusal}
-use Rattle.intervals.specs.Hierarchy.{edgesOf}
+use Rattle.lists.specs.Lists.{anyBelow, any}
+use Rattle.lists.specs.Answer.{Check, _when_, refusal}
+use Rattle.hierarchy.specs.Hierarchy.{edgesOf}
 use Rattle.intervals.specs.Intervals.{lowOf, highOf}
-use Rattle.intervals.specs.Cover.{lowAt, highAt}
-use Rattle.intervals.proofs.Bools.{bool, not-both, or-left, or-neither}
-use Rattle.intervals.proofs.Refusals.{refused-here, refused-later}
-use Rattle.intervals.proofs.Bounded.{none-of}
-use Rattle.intervals.proofs.Distinct.{all-alike}
-use Rattle.intervals.proofs.Legals.{promised}
+use Rattle.covers.specs.Cover.{lowAt, highAt}
+use Rattle.lists.proofs.Bools.{bool, not-both, or-left, or-neither}
+use Rattle.lists.proofs.Refusals.{refused-here, refused-later}
+use Rattle.lists.proofs.Bounded.{none-of}
+use Rattle.lists.proofs.Distinct.{all-alike}
+use Rattle.hierarchy.proofs.Legals.{promised}
 use Rattle.interval_laws.proofs.Laws.{built-low, built-high, interval-real, interval-inside-root, taken}
-use Rattle.desk.specs.declared.Lock.{Lock}
-use Rattle.desk.specs.declared.Stage.{Stage}
-use Rattle.desk.specs.declared.Stage.the-variants.{Out, Waiting, Holding}
+use Rattle.locks.specs.declared.Lock.{Lock}
+use Rattle.locks.specs.declared.Stage.{Stage}
+use Rattle.locks.specs.declared.Stage.the-variants.{Out, Waiting, Holding}
 use Rattle.desk.specs.declared.Desk.{Desk}
-use Rattle.desk.specs.Desks.{Hierarchy, lowIn, highIn, coverIn, stageAt, isOut, isWaiting}
-use Rattle.desk.specs.Sound.{listsParties, listsOnce, listsWaiting, ofLock, intervalsReal, coverRight, holdersApart, waitersHeldUp, soundDesk}
-use Rattle.desk.specs.Steps.{tablesShort, intervalWrong, stepChecks, namesWrong, lockOn, enterRefusal, free, enterIf, enterUnless, enterStep, insideHold, valueChecks, getUnless, getStep, readsOnly, putUnless, putStep, leaveRefusal, leaveUnless, leaveStep}
-use Rattle.history.specs.Run.{lend, Call, enter, get, put, leave, Step, lentTo, State, start, Moved, afterEnter, afterGet, afterPut, listed, afterLeave, moveCall, move, alsoRan, run}
+use Rattle.locks.specs.Lent.{Hierarchy, lowIn, highIn, coverIn, coverRight, tablesShort, intervalWrong, lockOn}
+use Rattle.locks.specs.Stages.{ofLock}
+use Rattle.parties.specs.Sound.{listsParties, listsOnce, listsWaiting, intervalsReal, holdersApart, waitersHeldUp, soundParties}
+use Rattle.desk.specs.Desks.{stageAt}
+use Rattle.desk.specs.Sound.{soundDesk}
+use Rattle.desk.specs.Steps.{putOwn, leaveOwn, enterOwn, stepChecks, enterRefusal, free, enterIf, enterUnless, enterStep, nodeChecks, valueChecks, getUnless, getStep, putUnless, putStep, leaveRefusal, leaveUnless, leaveStep}
+use Rattle.runs.specs.Run.{lend, Call, enter, get, put, leave, Step, lentTo, State, start, Moved, afterEnter, afterGet, afterPut, listed, afterLeave, moveCall, move, Ran, alsoRan, run}
+use Rattle.runs.specs.Over.{startOver, runOver}
+use Rattle.runs.proofs.Lends.{low-lent, high-lent}
+use Rattle.runs.proofs.Runs.{run-hierarchy, run-over}
 use Rattle.history.specs.Serial.{Built}
-use Rattle.history.proofs.Facts.{lend-at}
 use Rattle.history.proofs.Serializable.{built-two-each}
 use Rattle.soundness.specs.Refused.{isRefusal, refusedWith}
 use Rattle.soundness.proofs.Laws.{unchanged-get, unchanged-put, fresh-sound}
 use Rattle.soundness.proofs.Orderly.{Shaped}
-use Rattle.soundness.proofs.Kept.{fresh-shaped, enter-shaped, leave-shaped, enter-sound, leave-sound}
+use Rattle.soundness.proofs.Kept.{fresh-shaped, enter-shaped, get-shaped, put-shaped, leave-shaped, enter-sound, leave-sound}
 
 -- TWO HIERARCHIES that agree on n and on the intervals of the nodes
 record Agree (K H : Hierarchy) : Type 0 where
@@ -45,12 +50,8 @@ record Agree (K H : Hierarchy) : Type 0 where
 lent-agrees : (H : Hierarchy) (x : Step) → length (H .intervals) ≡ 2 * H .n → tablesShort (lentTo x H) ≡ false → Agree (lentTo x H) H
 unfolding lentTo
 lent-agrees H x two short =
-    let long = ltb-false (length (lend (H .intervals) (x .intervals))) (2 * H .n) (or-left (ltb (length (lend (H .intervals) (x .intervals))) (2 * H .n)) _ short) in
-    record {
-      size = refl;
-      low = λ node h. lend-at (H .intervals) (x .intervals) (2 * node) (omega arith) (omega arith);
-      high = λ node h. lend-at (H .intervals) (x .intervals) (2 * node + 1) (omega arith) (omega arith);
-    }
+    let long = ltb-false (length ((lentTo x H) .intervals)) (2 * H .n) (or-left (ltb (length ((lentTo x H) .intervals)) (2 * H .n)) _ short) in
+    record { size = refl; low = λ node h. low-lent H two x node h long; high = λ node h. high-lent H two x node h long }
 
 module _ (K H : Hierarchy) (a : Agree K H) where
   -- what is asked of a lock's cover is the same
@@ -68,9 +69,10 @@ module _ (K H : Hierarchy) (a : Agree K H) where
 
   -- a desk is sound over both or over neither
   sound-agrees : (d : Desk) → soundDesk K d ≡ soundDesk H d
-  unfolding soundDesk
+  unfolding soundParties
   sound-agrees d =
-      ap (λ (b : Bool). listsParties d && listsOnce d && listsWaiting d && intervalsReal d && b && holdersApart d && waitersHeldUp d)
+      ap (λ (b : Bool). listsParties (d .queue) (d .waiting) && listsOnce (d .queue) (d .waiting) && listsWaiting (d .entries) (d .queue) (d .waiting)
+      && intervalsReal (d .entries) && b && holdersApart (d .entries) && waitersHeldUp (d .entries) (d .queue) (d .waiting))
       (all-alike (λ party. ofLock (coverRight K) (stageAt d party)) (λ party. ofLock (coverRight H) (stageAt d party)) 32 (λ party. stage-agrees (stageAt d party)))
 
   -- an interval is wrong in both or in neither
@@ -150,112 +152,120 @@ module _ (d : Desk) (k : ℕ) where
   leave-number party list bytes (some j) = refl
   leave-number party list bytes none = refl
 
--- ONE STEP of a list, from a desk that is shaped and sound
-record Fine (H : Hierarchy) (d : Desk) : Type 0 where
-  shaped : Shaped d
-  sound : soundDesk H d ≡ true
+-- ONE STEP of a list, from a state with a built hierarchy, and a desk that is shaped and sound
+record Fine (s : State) : Type 0 where
+  built : Built (s .hierarchy)
+  shaped : Shaped (s .desk)
+  sound : soundDesk (s .hierarchy) (s .desk) ≡ true
 
--- the step hands back such a desk, and is not refused with 10
-record Stepped (H : Hierarchy) (m : Moved) : Type 0 where
-  fine : Fine H (m .state .desk)
+-- the step leaves such a state, and is not refused with 10
+record Stepped (m : Moved) : Type 0 where
+  fine : Fine (m .state)
   event : refusedWith 10 (m .event) ≡ false
 
-module _ (H : Hierarchy) (b : Built H) (x : Step) (d : Desk) (f : Fine H d) where
+module _ (x : Step) (s : State) (f : Fine s) where
+  abbrev H : Hierarchy
+  H = s .hierarchy
+
+  -- what it is lent
+  abbrev K : Hierarchy
+  K = lentTo x H
+
+  abbrev d : Desk
+  d = s .desk
+
   -- the step sees the built intervals
-  agree : tablesShort (lentTo x H) ≡ false → Agree (lentTo x H) H
-  agree = lent-agrees H x (built-two-each H b)
+  agree : tablesShort K ≡ false → Agree K H
+  agree = lent-agrees H x (built-two-each H (f .built))
 
   -- 10 does not hold
-  not-ten : (party : ℕ) (short : Bool) (own : List Check) → NoneWith 10 own → isNumber 10 (refusal (stepChecks (lentTo x H) d party short own)) ≡ false
+  not-ten : (party : ℕ) (short : Bool) (own : List Check) → NoneWith 10 own → isNumber 10 (refusal (stepChecks K d party short own)) ≡ false
   unfolding lentTo
   not-ten party short own o =
-      bool (tablesShort (lentTo x H))
-      (λ e. rw (short-first (lentTo x H) d party short own e))
-      (λ e. not-refused 10 (stepChecks (lentTo x H) d party short own) (refl, (refl, (refl, (refl, (fine e, (refl, o)))))))
+      bool (tablesShort K)
+      (λ e. rw (short-first K d party short own e))
+      (λ e. not-refused 10 (stepChecks K d party short own) (refl, (refl, (refl, (refl, (fine e, (refl, o)))))))
     where
-      fine : tablesShort (lentTo x H) ≡ false → (anyBelow (H .n) (intervalWrong (lentTo x H)) || not (soundDesk (lentTo x H) d)) ≡ false
+      fine : tablesShort K ≡ false → (anyBelow (H .n) (intervalWrong K) || not (soundDesk K d)) ≡ false
       fine e =
-          or-neither (anyBelow (H .n) (intervalWrong (lentTo x H))) (not (soundDesk (lentTo x H) d))
-          (none-of (intervalWrong (lentTo x H)) (H .n) (λ i h. wrong-agrees (lentTo x H) H (agree e) i h ∙ built-right H b i h))
-          (ap not (sound-agrees (lentTo x H) H (agree e) d ∙ f .sound))
-
-  -- the desk handed back is sound, since the step saw the built intervals or was refused with 1
-  kept : (new : Desk) → (tablesShort (lentTo x H) ≡ true → new ≡ d) → (soundDesk (lentTo x H) d ≡ true → soundDesk (lentTo x H) new ≡ true) → soundDesk H new ≡ true
-  kept new same step =
-      bool (tablesShort (lentTo x H))
-      (λ e. rw (same e) (f .sound))
-      (λ e. sym (sound-agrees (lentTo x H) H (agree e) new) ∙ step (sound-agrees (lentTo x H) H (agree e) d ∙ f .sound))
+          or-neither (anyBelow (H .n) (intervalWrong K)) (not (soundDesk K d))
+          (none-of (intervalWrong K) (H .n) (λ i h. wrong-agrees K H (agree e) i h ∙ built-right H (f .built) i h))
+          (ap not (sound-agrees K H (agree e) d ∙ f .sound))
 
   -- get and put alike
-  value-not-ten : (party node : ℕ) (values : List ℕ) (own : List Check) → NoneWith 10 own → isNumber 10 (refusal (valueChecks (lentTo x H) d party node values own)) ≡ false
-  value-not-ten party node values own o =
-      not-ten party (ltb (length values) (lentTo x H .n))
-      (13 when isOut (stageAt d party)
-      ∷ 14 when isWaiting (stageAt d party)
-      ∷ 15 when not (ltb node (lentTo x H .n))
-      ∷ 16 when not (insideHold (lentTo x H) node (stageAt d party))
-      ∷ own)
-      (refl, (refl, (refl, (refl, o))))
+  value-not-ten : (party node : ℕ) (values : List ℕ) (own : List Check) → NoneWith 10 own → isNumber 10 (refusal (valueChecks K d party node values own)) ≡ false
+  value-not-ten party node values own o = not-ten party (ltb (length values) (K .n)) (nodeChecks K d party node own) (refl, (refl, (refl, (refl, o))))
 
--- each of the four
-call-stepped : (H : Hierarchy) → Built H → (x : Step) (c : Call) (s : State) → Fine H (s .desk) → Stepped H (moveCall (lentTo x H) c s)
-unfolding moveCall afterEnter afterGet afterPut afterLeave enterStep getStep putStep leaveStep
-call-stepped H b x (enter party mode names nameCount) s f =
-    let l : Lock = lockOn (lentTo x H) mode (coverIn (lentTo x H) (take nameCount names)) in
-    let own : List Check = 12 when not (isOut (stageAt (s .desk) party)) ∷ 15 when namesWrong (lentTo x H .n) names nameCount ∷ [] in
-    record {
-      fine = record {
-        shaped = enter-shaped (lentTo x H) (s .desk) party mode names nameCount (f .shaped);
-        sound = kept H b x (s .desk) f _
-            (λ e. enter-same (s .desk) 1 party l _ (short-first (lentTo x H) (s .desk) party (ltb (length names) nameCount) own e))
-            (enter-sound (lentTo x H) (s .desk) party mode names nameCount (f .shaped));
-      };
-      event = enter-number (s .desk) 10 party l (enterRefusal (lentTo x H) (s .desk) party names nameCount)
-          ∙ not-ten H b x (s .desk) f party (ltb (length names) nameCount) own (refl, (refl, tt));
-    }
-call-stepped H b x (get party node l) s f = record {
-  fine = rw (unchanged-get (lentTo x H) (s .desk) party node (lend (s .values) l)) f;
-  event = get-number (s .desk) 10 (getD (lend (s .values) l) node 0) (refusal (valueChecks (lentTo x H) (s .desk) party node (lend (s .values) l) []))
-      ∙ value-not-ten H b x (s .desk) f party node (lend (s .values) l) [] tt;
-}
-call-stepped H b x (put party node value l) s f =
-    let own : List Check = 17 when readsOnly (stageAt (s .desk) party) ∷ [] in
-    record {
-      fine = rw (unchanged-put (lentTo x H) (s .desk) party node value (lend (s .values) l)) f;
-      event = put-number (s .desk) 10 node value (lend (s .values) l) (refusal (valueChecks (lentTo x H) (s .desk) party node (lend (s .values) l) own))
-          ∙ value-not-ten H b x (s .desk) f party node (lend (s .values) l) own (refl, tt);
-    }
-call-stepped H b x (leave party list) s f =
-    let own : List Check = 13 when isOut (stageAt (s .desk) party) ∷ [] in
-    record {
-      fine = record {
-        shaped = leave-shaped (lentTo x H) (s .desk) party list (f .shaped);
-        sound = kept H b x (s .desk) f _
-            (λ e. leave-same (s .desk) 1 party list _ (short-first (lentTo x H) (s .desk) party (ltb (length list) 32) own e))
-            (leave-sound (lentTo x H) (s .desk) party list (f .shaped));
-      };
-      event = leave-number (s .desk) 10 party list _ (leaveRefusal (lentTo x H) (s .desk) party list)
-          ∙ not-ten H b x (s .desk) f party (ltb (length list) 32) own (refl, tt);
-    }
+  -- the desk handed back is sound, since the step saw the built intervals or was refused with 1
+  kept : (new : Desk) → (tablesShort K ≡ true → new ≡ d) → (soundDesk K d ≡ true → soundDesk K new ≡ true) → soundDesk H new ≡ true
+  kept new same step =
+      bool (tablesShort K)
+      (λ e. rw (same e) (f .sound))
+      (λ e. sym (sound-agrees K H (agree e) new) ∙ step (sound-agrees K H (agree e) d ∙ f .sound))
+
+  -- each of the four
+  call-stepped : (c : Call) → Stepped (moveCall K c s)
+  unfolding moveCall afterEnter afterGet afterPut afterLeave enterStep getStep putStep leaveStep
+  call-stepped (enter party mode names nameCount) =
+      let l : Lock = lockOn K mode (coverIn K (take nameCount names)) in
+      let own : List Check = enterOwn K d party names nameCount in
+      record {
+        fine = record {
+          built = f .built;
+          shaped = enter-shaped K d party mode names nameCount (f .shaped);
+          sound = kept _ (λ e. enter-same d 1 party l _ (short-first K d party (ltb (length names) nameCount) own e)) (enter-sound K d party mode names nameCount (f .shaped));
+        };
+        event = enter-number d 10 party l (enterRefusal K d party names nameCount) ∙ not-ten party (ltb (length names) nameCount) own (refl, (refl, tt));
+      }
+  call-stepped (get party node l) =
+      let values : List ℕ = lend (s .values) l in
+      record {
+        fine = record { built = f .built; shaped = get-shaped K d party node values (f .shaped); sound = rw (unchanged-get K d party node values) (f .sound) };
+        event = get-number d 10 (getD values node 0) (refusal (valueChecks K d party node values [])) ∙ value-not-ten party node values [] tt;
+      }
+  call-stepped (put party node value l) =
+      let values : List ℕ = lend (s .values) l in
+      let own : List Check = putOwn d party in
+      record {
+        fine = record { built = f .built; shaped = put-shaped K d party node value values (f .shaped); sound = rw (unchanged-put K d party node value values) (f .sound) };
+        event = put-number d 10 node value values (refusal (valueChecks K d party node values own)) ∙ value-not-ten party node values own (refl, tt);
+      }
+  call-stepped (leave party list) =
+      let own : List Check = leaveOwn d party in
+      record {
+        fine = record {
+          built = f .built;
+          shaped = leave-shaped K d party list (f .shaped);
+          sound = kept _ (λ e. leave-same d 1 party list _ (short-first K d party (ltb (length list) 32) own e)) (leave-sound K d party list (f .shaped));
+        };
+        event = leave-number d 10 party list _ (leaveRefusal K d party list) ∙ not-ten party (ltb (length list) 32) own (refl, tt);
+      }
 
 -- A LIST of steps
-run-fine : (H : Hierarchy) → Built H → (steps : List Step) (s : State) → Fine H (s .desk)
-    → Fine H ((run H steps s) .state .desk) × (any (refusedWith 10) ((run H steps s) .events) ≡ false)
+run-fine : (steps : List Step) (s : State) → Fine s → Fine ((run steps s) .state) × (any (refusedWith 10) ((run steps s) .events) ≡ false)
 unfolding run alsoRan move any
-run-fine H b [] s f = (f, refl)
-run-fine H b (x ∷ xs) s f =
-    let m = call-stepped H b x (x .call) s f in
-    let (last, rest) = run-fine H b xs ((moveCall (lentTo x H) (x .call) s) .state) (m .fine) in
-    (last, or-neither (refusedWith 10 ((moveCall (lentTo x H) (x .call) s) .event)) _ (m .event) rest)
+run-fine [] s f = (f, refl)
+run-fine (x ∷ xs) s f =
+    let m = call-stepped x s f (x .call) in
+    let (last, rest) = run-fine xs ((moveCall (lentTo x (s .hierarchy)) (x .call) s) .state) (m .fine) in
+    (last, or-neither (refusedWith 10 ((moveCall (lentTo x (s .hierarchy)) (x .call) s) .event)) _ (m .event) rest)
 
-start-fine : (H : Hierarchy) (values : List ℕ) → Fine H ((start values) .desk)
-unfolding start
-start-fine H values = record { shaped = fresh-shaped; sound = fresh-sound H }
+start-fine : (H : Hierarchy) (values : List ℕ) → Built H → Fine (start H values)
+start-fine H values b = record { built = b; shaped = fresh-shaped; sound = fresh-sound H }
 
 -- THE THEOREM: over a built hierarchy no step of any list is refused with 10, from a fresh desk and any values
-pub never-ten : (H : Hierarchy) → Built H → (values : List ℕ) (steps : List Step) → any (refusedWith 10) ((run H steps (start values)) .events) ≡ false
-never-ten H b values steps = run-fine H b steps (start values) (start-fine H values) .1
+pub never-ten : (H : Hierarchy) → Built H → (values : List ℕ) (steps : List Step) → any (refusedWith 10) ((run steps (start H values)) .events) ≡ false
+never-ten H b values steps = run-fine steps (start H values) (start-fine H values b) .1
 
 -- and the desk that any list leaves is sound
-pub run-sound : (H : Hierarchy) → Built H → (values : List ℕ) (steps : List Step) → soundDesk H ((run H steps (start values)) .state .desk) ≡ true
-run-sound H b values steps = run-fine H b steps (start values) (start-fine H values) .0 .sound
+pub run-sound : (H : Hierarchy) → Built H → (values : List ℕ) (steps : List Step) → soundDesk H ((run steps (start H values)) .state .desk) ≡ true
+run-sound H b values steps =
+    ap (λ (K : Hierarchy). soundDesk K ((run steps (start H values)) .state .desk)) (sym (run-hierarchy steps (start H values)))
+    ∙ run-fine steps (start H values) (start-fine H values b) .0 .sound
+
+-- THE SAME with the hierarchy beside the state
+pub never-ten-over : (H : Hierarchy) → Built H → (values : List ℕ) (steps : List Step) → any (refusedWith 10) ((runOver H steps (startOver values)) .events) ≡ false
+never-ten-over H b values steps = sym (ap (λ (r : Ran). any (refusedWith 10) (r .events)) (run-over H steps (startOver values))) ∙ never-ten H b values steps
+
+pub run-sound-over : (H : Hierarchy) → Built H → (values : List ℕ) (steps : List Step) → soundDesk H ((runOver H steps (startOver values)) .state .desk) ≡ true
+run-sound-over H b values steps = sym (ap (λ (r : Ran). soundDesk H (r .state .desk)) (run-over H steps (startOver values))) ∙ run-sound H b values steps

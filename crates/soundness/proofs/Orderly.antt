@@ -2,26 +2,32 @@
 use mathlib.Core.Path.{_≡_, refl, sym, ap, _∙_, subst}
 use mathlib.Core.Logic.{_≢_}
 use mathlib.Core.List.{List, _++_}
-use mathlib.Core.Bool.{Bool, true, false, not, _&&_, _||_}
+use mathlib.Core.Bool.{Bool, true, false, not, _||_}
 use Prim.Native.Nat.{ℕ, _≤_, _<_}
 use native.Mathlib.Omega.{arith}
 use lib.Dec.{eqb, leb, ltb}
-use lib.ListN.{length, getD, take, replicate, length-take, length-append, length-replicate, List·getD-append}
+use lib.ListN.{length, getD, take, replicate, List·getD-append}
 use lib.Seq.{length-take-le, getD-take, take-take, take-append-le}
 use borrow.Author.Tests.{eqb-true, eqb-false, eq-eqb, ne-eqb, leb-true, le-leb, ltb-true, lt-ltb, not-true}
-use Rattle.intervals.specs.Lists.{allBelow}
-use Rattle.intervals.proofs.Bools.{bool, and-left, and-right, and-both}
-use Rattle.intervals.proofs.Bounded.{all-at, all-of, any-stop}
-use Rattle.intervals.proofs.Members.{In}
-use Rattle.intervals.proofs.Distinct.{any-some, place-in, in-place, Distinct, distinct-at, distinct-of, distinct-below}
-use Rattle.desk.specs.declared.Lock.{Lock}
-use Rattle.desk.specs.declared.Stage.{Stage}
-use Rattle.desk.specs.declared.Stage.the-variants.{Out, Waiting, Holding}
-use Rattle.desk.specs.declared.Entry.{Entry}
+use Rattle.lists.specs.Lists.{allBelow}
+use Rattle.lists.proofs.Bools.{bool, and-left, and-right, and-both}
+use Rattle.lists.proofs.Bounded.{all-at, all-of, any-stop}
+use Rattle.lists.proofs.Members.{In}
+use Rattle.lists.proofs.Distinct.{any-some, place-in, in-place, Distinct, distinct-at, distinct-of, distinct-below}
+use Rattle.locks.specs.declared.Lock.{Lock}
+use Rattle.locks.specs.declared.Stage.{Stage}
+use Rattle.locks.specs.declared.Stage.the-variants.{Out, Waiting, Holding}
+use Rattle.locks.specs.Locks.{conflict, realInterval}
+use Rattle.locks.specs.Stages.{isWaiting, ofLock, holdersConflict}
+use Rattle.locks.specs.Lent.{Hierarchy, coverRight}
+use Rattle.parties.specs.declared.Entry.{Entry}
+use Rattle.parties.specs.Parties.{stageIn}
+use Rattle.arrivals.specs.Arrivals.{queuePlaces}
+use Rattle.parties.specs.Sound.{isListed, heldUp}
+use Rattle.parties.proofs.Clauses.{Clauses, clauses, from-clauses}
 use Rattle.desk.specs.declared.Desk.{Desk}
-use Rattle.desk.specs.Locks.{conflict, realInterval}
-use Rattle.desk.specs.Desks.{Hierarchy, stageIn, stageAt, isWaiting, listedAt, queueOf, queuePlaces}
-use Rattle.desk.specs.Sound.{listsParties, listsOnce, isListed, listsWaiting, ofLock, intervalsReal, coverRight, coversRight, holdersConflict, holdersApart, heldUp, waitersHeldUp, soundDesk}
+use Rattle.desk.specs.Desks.{stageAt, listedAt, queueOf}
+use Rattle.desk.specs.Sound.{soundDesk}
 use Rattle.history.proofs.Facts.{holders-apart, holder-below}
 
 -- what the code's array types say of a desk: 32 entries, and 32 places for the arrival list
@@ -51,49 +57,17 @@ pub record Orderly (H : Hierarchy) (es : List Entry) (list : List ℕ) : Type 0 
 abbrev pub HeldUp : List Entry → List ℕ → Type 0
 HeldUp es list = (i : ℕ) → i < length list → heldUp es (take i list) (stageIn es (getD list i 0)) ≡ true
 
--- the clauses of the test, one by one
-record Clauses (H : Hierarchy) (d : Desk) : Type 0 where
-  parties : listsParties d ≡ true
-  once : listsOnce d ≡ true
-  waiting : listsWaiting d ≡ true
-  real : intervalsReal d ≡ true
-  covers : coversRight H d ≡ true
-  apart : holdersApart d ≡ true
-  held : waitersHeldUp d ≡ true
+-- the clauses of a desk by name
+abbrev ofDesk : Hierarchy → Desk → Type 0
+ofDesk H d = Clauses H (d .entries) (d .queue) (d .waiting)
 
-clauses : (H : Hierarchy) (d : Desk) → soundDesk H d ≡ true → Clauses H d
-unfolding soundDesk
-clauses H d s =
-    let s6 = and-left (listsParties d && listsOnce d && listsWaiting d && intervalsReal d && coversRight H d && holdersApart d) (waitersHeldUp d) s in
-    let s5 = and-left (listsParties d && listsOnce d && listsWaiting d && intervalsReal d && coversRight H d) (holdersApart d) s6 in
-    let s4 = and-left (listsParties d && listsOnce d && listsWaiting d && intervalsReal d) (coversRight H d) s5 in
-    let s3 = and-left (listsParties d && listsOnce d && listsWaiting d) (intervalsReal d) s4 in
-    let s2 = and-left (listsParties d && listsOnce d) (listsWaiting d) s3 in
-    record {
-      parties = and-left (listsParties d) (listsOnce d) s2;
-      once = and-right (listsParties d) (listsOnce d) s2;
-      waiting = and-right (listsParties d && listsOnce d) (listsWaiting d) s3;
-      real = and-right (listsParties d && listsOnce d && listsWaiting d) (intervalsReal d) s4;
-      covers = and-right (listsParties d && listsOnce d && listsWaiting d && intervalsReal d) (coversRight H d) s5;
-      apart = and-right (listsParties d && listsOnce d && listsWaiting d && intervalsReal d && coversRight H d) (holdersApart d) s6;
-      held = and-right (listsParties d && listsOnce d && listsWaiting d && intervalsReal d && coversRight H d && holdersApart d) (waitersHeldUp d) s;
-    }
-
--- and back
-from-clauses : (H : Hierarchy) (d : Desk) → Clauses H d → soundDesk H d ≡ true
-unfolding soundDesk
-from-clauses H d c =
-    and-both _ (waitersHeldUp d)
-    (and-both _ (holdersApart d)
-    (and-both _ (coversRight H d)
-    (and-both _ (intervalsReal d)
-    (and-both _ (listsWaiting d)
-    (and-both (listsParties d) (listsOnce d) (c .parties) (c .once)) (c .waiting)) (c .real)) (c .covers)) (c .apart)) (c .held)
+by-name : (H : Hierarchy) (d : Desk) → soundDesk H d ≡ true → ofDesk H d
+by-name H d s = clauses H (d .entries) (d .queue) (d .waiting) s
 
 -- a sound desk has its list in the first places of the queue
 pub sound-reads : (H : Hierarchy) (d : Desk) → Shaped d → soundDesk H d ≡ true → Reads d (queueOf d)
 sound-reads H d shape s =
-    let few : d .waiting ≤ 32 = leb-true (d .waiting) 32 (and-left (leb (d .waiting) 32) (allBelow (d .waiting) (λ i. ltb (listedAt d i) 32)) (clauses H d s .parties)) in
+    let few : d .waiting ≤ 32 = leb-true (d .waiting) 32 (and-left (leb (d .waiting) 32) (allBelow (d .waiting) (λ i. ltb (listedAt d i) 32)) (by-name H d s .parties)) in
     let long : length (queueOf d) ≡ d .waiting = length-take-le (d .waiting) (d .queue) (omega (arith, shape .queue)) in
     record {
       few = omega arith;
@@ -111,10 +85,6 @@ places-read d list e w few =
       at = λ i h. rw e (getD-take 32 (list ++ replicate 32 0) i 0 (omega arith) ∙ List·getD-append list (replicate 32 0) 0 i h);
       front = λ i h. rw e (take-take i 32 (list ++ replicate 32 0) (omega arith) ∙ take-append-le i list (replicate 32 0) (omega arith));
     }
-
--- it has 32 places
-pub places-long : (list : List ℕ) → length (queuePlaces list) ≡ 32
-places-long list = omega (arith, length-take 32 (list ++ replicate 32 0), length-append list (replicate {A = ℕ} 32 0), length-replicate {A = ℕ} 32 0)
 
 module _ (H : Hierarchy) (d : Desk) (list : List ℕ) (r : Reads d list) where
   -- a test at each place of the desk's list holds where it holds at each place of the list, and the other way round
@@ -135,14 +105,14 @@ module _ (H : Hierarchy) (d : Desk) (list : List ℕ) (r : Reads d list) where
     parties = λ p m. ltb-true p 32 (member (λ p. ltb p 32) below p m);
     once = distinct-of list apart;
     waits = member (λ p. isWaiting (stageAt d p)) waiting;
-    listed = λ p h w. found p (rw w at (all-at (λ party. not (isWaiting (stageAt d party)) || isListed d party) 32 p known h));
+    listed = λ p h w. found p (rw w at (all-at (λ party. not (isWaiting (stageAt d party)) || isListed (d .queue) (d .waiting) party) 32 p known h));
     real = λ p h. all-at (λ party. ofLock (λ l. realInterval (l .low) (l .high)) (stageAt d party)) 32 p (c .real) h;
     covers = λ p h. all-at (λ party. ofLock (coverRight H) (stageAt d party)) 32 p (c .covers) h;
     apart = λ p q g h ne eg eh. holders-apart H d s p q g h (omega (arith, holder-below (d .entries) p g eg)) (omega (arith, holder-below (d .entries) q h eh)) ne eg eh;
   }
     where
-      c : Clauses H d
-      c = clauses H d s
+      c : ofDesk H d
+      c = by-name H d s
 
       below : allBelow (d .waiting) (λ i. ltb (listedAt d i) 32) ≡ true
       below = and-right (leb (d .waiting) 32) (allBelow (d .waiting) (λ i. ltb (listedAt d i) 32)) (c .parties)
@@ -155,12 +125,14 @@ module _ (H : Hierarchy) (d : Desk) (list : List ℕ) (r : Reads d list) where
           (here (λ i x. allBelow i (λ j. not (eqb x (listedAt d j)))) (c .once) i k) h)))
 
       waiting : allBelow (d .waiting) (λ i. isWaiting (stageAt d (listedAt d i))) ≡ true
-      waiting = and-left (allBelow (d .waiting) (λ i. isWaiting (stageAt d (listedAt d i)))) (allBelow 32 (λ party. not (isWaiting (stageAt d party)) || isListed d party)) (c .waiting)
+      waiting = and-left (allBelow (d .waiting) (λ i. isWaiting (stageAt d (listedAt d i))))
+          (allBelow 32 (λ party. not (isWaiting (stageAt d party)) || isListed (d .queue) (d .waiting) party)) (c .listed)
 
-      known : allBelow 32 (λ party. not (isWaiting (stageAt d party)) || isListed d party) ≡ true
-      known = and-right (allBelow (d .waiting) (λ i. isWaiting (stageAt d (listedAt d i)))) (allBelow 32 (λ party. not (isWaiting (stageAt d party)) || isListed d party)) (c .waiting)
+      known : allBelow 32 (λ party. not (isWaiting (stageAt d party)) || isListed (d .queue) (d .waiting) party) ≡ true
+      known = and-right (allBelow (d .waiting) (λ i. isWaiting (stageAt d (listedAt d i))))
+          (allBelow 32 (λ party. not (isWaiting (stageAt d party)) || isListed (d .queue) (d .waiting) party)) (c .listed)
 
-      found : (p : ℕ) → isListed d p ≡ true → In p list
+      found : (p : ℕ) → isListed (d .queue) (d .waiting) p ≡ true → In p list
       found p t =
           let (i, h, e) = any-some (λ i. eqb (listedAt d i) p) (d .waiting) t in
           let k : i < length list = omega (arith, r .count) in
@@ -168,18 +140,19 @@ module _ (H : Hierarchy) (d : Desk) (list : List ℕ) (r : Reads d list) where
 
   -- its last clause
   pub sound-held : soundDesk H d ≡ true → HeldUp (d .entries) list
-  sound-held s i h = rw (r .front i h) at (here (λ i p. heldUp (d .entries) (take i (d .queue)) (stageAt d p)) (clauses H d s .held) i h)
+  sound-held s i h = rw (r .front i h) at (here (λ i p. heldUp (d .entries) (take i (d .queue)) (stageAt d p)) (by-name H d s .held) i h)
 
   -- to the test
   pub orderly-sound : Orderly H (d .entries) list → HeldUp (d .entries) list → soundDesk H d ≡ true
-  orderly-sound o u = from-clauses H d (record {
+  orderly-sound o u = from-clauses H (d .entries) (d .queue) (d .waiting) (record {
     parties = and-both (leb (d .waiting) 32) (allBelow (d .waiting) (λ i. ltb (listedAt d i) 32)) (le-leb (d .waiting) 32 (omega (arith, r .count, r .few)))
         (there (λ i p. ltb p 32) (λ i h. lt-ltb (getD list i 0) 32 (o .parties (getD list i 0) (place-in list i h))));
     once = there (λ i p. allBelow i (λ j. not (eqb p (listedAt d j)))) (λ i h. all-of (λ j. not (eqb (getD list i 0) (listedAt d j))) i (λ j k.
         rw (r .at j (omega arith), ne-eqb (getD list i 0) (getD list j 0) (distinct-at list (o .once) i j k h))));
-    waiting = and-both (allBelow (d .waiting) (λ i. isWaiting (stageAt d (listedAt d i)))) (allBelow 32 (λ party. not (isWaiting (stageAt d party)) || isListed d party))
+    listed = and-both (allBelow (d .waiting) (λ i. isWaiting (stageAt d (listedAt d i)))) (allBelow 32 (λ party. not (isWaiting (stageAt d party)) || isListed (d .queue) (d .waiting) party))
         (there (λ i p. isWaiting (stageAt d p)) (λ i h. o .waits (getD list i 0) (place-in list i h)))
-        (all-of (λ party. not (isWaiting (stageAt d party)) || isListed d party) 32 (λ p h. bool (isWaiting (stageAt d p)) (λ w. rw w (on-list p (o .listed p h w))) (λ w. rw w)));
+        (all-of (λ party. not (isWaiting (stageAt d party)) || isListed (d .queue) (d .waiting) party) 32
+        (λ p h. bool (isWaiting (stageAt d p)) (λ w. rw w (on-list p (o .listed p h w))) (λ w. rw w)));
     real = all-of (λ party. ofLock (λ l. realInterval (l .low) (l .high)) (stageAt d party)) 32 (o .real);
     covers = all-of (λ party. ofLock (coverRight H) (stageAt d party)) 32 (o .covers);
     apart = all-of (λ party. allBelow party (λ other. not (holdersConflict (stageAt d party) (stageAt d other)))) 32 (λ p h.
@@ -187,7 +160,7 @@ module _ (H : Hierarchy) (d : Desk) (list : List ℕ) (r : Reads d list) where
     held = there (λ i p. heldUp (d .entries) (take i (d .queue)) (stageAt d p)) (λ i h. rw (r .front i h) (u i h));
   })
     where
-      on-list : (p : ℕ) → In p list → isListed d p ≡ true
+      on-list : (p : ℕ) → In p list → isListed (d .queue) (d .waiting) p ≡ true
       on-list p m =
           let (i, h, e) = in-place m in
           any-stop (λ i. eqb (listedAt d i) p) (d .waiting) i (omega (arith, r .count)) (eq-eqb (listedAt d i) p (r .at i h ∙ e))

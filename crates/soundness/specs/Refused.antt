@@ -2,8 +2,8 @@
 use mathlib.Core.Bool.{Bool, false}
 use Prim.Native.Nat.{ℕ}
 use lib.Dec.{eqb}
-use Rattle.intervals.specs.Answer.{Answer, done, refused}
-use Rattle.history.specs.History.{Event, entered, got, stored, left}
+use Rattle.lists.specs.Answer.{Answer, done, refused}
+use Rattle.runs.specs.Run.{Event, entered, got, stored, left}
 
 -- the answer is the refusal k
 abbrev pub isRefusal : {A : Type 0} → ℕ → Answer A → Bool

@@ -20,18 +20,47 @@ slice-aggregate-block-check c = sym (length-take-le _ (c .before .before .before
 
 returns-2 : tie.Need-returns-2
 unfolding afterBlock
-returns-2 c = simp (lt-leb _ _ (c .before .before .before .before .before .if1 .left), sym (c .before .before .number4 .ensures), sym (c .before .before .before .block-check .ensures), not-true (eqb (c .before .before .number4 .result) (c .before .before .before .block-check .result)) (c .if2 .taken))
+returns-2 c =
+    let k = c .before .before in
+    let b = k .before in
+    simp (lt-leb _ _ (b .before .before .if1 .left), sym (k .number4 .ensures), sym (b .block-check .ensures), not-true (eqb (k .number4 .result) (b .block-check .result)) (c .if2 .taken))
 
 returns-3 : tie.Need-returns-3
 unfolding afterBlock
-returns-3 c = simp (lt-leb _ _ (c .before .before .before .before .before .before .if1 .left), sym (c .before .before .before .number4 .ensures), sym (c .before .before .before .before .block-check .ensures), not-false (eqb (c .before .before .before .number4 .result) (c .before .before .before .before .block-check .result)) (c .before .if2 .left), sym (c .before .before .head-right .ensures) ∙ not-true _ (c .if3 .taken))
+returns-3 c =
+    let h = c .before .before in
+    let k = h .before in
+    let b = k .before in
+    simp (
+      lt-leb _ _ (b .before .before .if1 .left),
+      sym (k .number4 .ensures),
+      sym (b .block-check .ensures),
+      not-false (eqb (k .number4 .result) (b .block-check .result)) (c .before .if2 .left),
+      sym (h .head-right .ensures) ∙ not-true _ (c .if3 .taken),
+    )
 
 after-records-requires : tie.Need-after-records-requires
-after-records-requires c κs = rw part-to-end (simp length-drop (omega (arith, head-facts _ _ _ (sym (c .before .before .before .before .head-right .ensures) ∙ not-false _ (c .before .before .if3 .left)) .high)))
+after-records-requires c κs =
+    let right = sym (c .before .before .before .before .head-right .ensures) ∙ not-false _ (c .before .before .if3 .left) in
+    rw part-to-end (simp length-drop (omega (arith, head-facts _ _ _ right .high)))
 
 returns-4 : tie.Need-returns-4
 unfolding afterBlock
-returns-4 c = c .after-records .ensures ∙ simp (lt-leb _ _ (c .before .before .before .before .before .before .before .before .before .if1 .left), sym (c .before .before .before .before .before .before .number4 .ensures), sym (c .before .before .before .before .before .before .before .block-check .ensures), not-false (eqb (c .before .before .before .before .before .before .number4 .result) (c .before .before .before .before .before .before .before .block-check .result)) (c .before .before .before .before .if2 .left), sym (c .before .before .before .before .before .head-right .ensures) ∙ not-false _ (c .before .before .before .if3 .left), sym (c .before .before .number2 .ensures .0), part-to-end)
+returns-4 c =
+    let i = c .before .before .before in
+    let h = i .before .before in
+    let k = h .before in
+    let b = k .before in
+    c .after-records .ensures
+    ∙ simp (
+      lt-leb _ _ (b .before .before .if1 .left),
+      sym (k .number4 .ensures),
+      sym (b .block-check .ensures),
+      not-false (eqb (k .number4 .result) (b .block-check .result)) (i .before .if2 .left),
+      sym (h .head-right .ensures) ∙ not-false _ (i .if3 .left),
+      sym (c .before .before .number2 .ensures .0),
+      part-to-end,
+    )
 
 pub after-block-spec : {M : Type 1} → statement M
 after-block-spec =

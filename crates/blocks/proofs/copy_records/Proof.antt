@@ -3,8 +3,8 @@ use Prim.Native.Nat.{_≤_, _+_, _*_, _-_}
 use mathlib.Core.Path.{_≡_, refl, _∙_}
 use native.Mathlib.Omega.{arith}
 use lib.ListN.{length, drop, length-take, length-drop}
-use Rattle.blocks.specs.Inner.{overAt}
-use Rattle.intervals.specs.Lists.{over}
+use Rattle.octets.specs.Writes.{overAt}
+use Rattle.lists.specs.Lists.{over}
 use Rattle.blocks.specs.File.{recordsOf}
 use Rattle.blocks.proofs.Stages.{counts-part}
 use Rattle.blocks.proofs.Copies.{copy-start, copy-start-length, copy-step, copy-length, copy-end, copy-end-length}
@@ -24,7 +24,9 @@ loop-holds : tie.Need-loop-holds Inv-loop μ-loop
 loop-holds c = (omega arith, omega arith, refl, copy-start _ _ _, copy-start-length _ _)
 
 copy-block-requires : tie.Need-copy-block-requires Inv-loop μ-loop
-copy-block-requires c κs = (simp (length-take, length-drop) (omega arith), counts-part _ _ (c .before .before .before .before .before .before .pre .3) _ (c .before .before .loop-test .taken), omega arith)
+copy-block-requires c κs =
+    let few = counts-part _ _ (c .before .before .before .before .before .before .pre .3) _ (c .before .before .loop-test .taken) in
+    (simp (length-take, length-drop) (omega arith), few, omega arith)
 
 loop-again : tie.Need-loop-again Inv-loop μ-loop
 loop-again c =

@@ -1,8 +1,6 @@
 -- `head_right` meets its contract, test by test. Assumes nothing.
 use mathlib.Core.Path.{sym, _∙_}
-use native.Mathlib.Omega.{arith}
 use borrow.Author.Tests.{not-true, not-false, eq-eqb, ne-eqb}
-use lib.Seq.{length-take-le}
 use Rattle.blocks.specs.Block.{headRight}
 use borrow.Author.Needs.{needs}
 use Rattle.blocks.proofs.head_right.Statement.{statement}
@@ -14,18 +12,38 @@ returns c = simp (sym (c .before .number4 .ensures), ne-eqb _ _ (c .if1 .taken))
 
 returns-2 : tie.Need-returns-2
 unfolding headRight
-returns-2 c = simp (sym (c .before .before .before .number4 .ensures), eq-eqb _ _ (c .before .before .if1 .left), sym (c .before .before .before .before .number2 .ensures .0), sym (c .before .count-right .ensures) ∙ not-true _ (c .if2 .taken))
+returns-2 c =
+    let f = c .before .before .before in
+    simp (sym (f .number4 .ensures), eq-eqb _ _ (c .before .before .if1 .left), sym (f .before .number2 .ensures .0), sym (c .before .count-right .ensures) ∙ not-true _ (c .if2 .taken))
 
 returns-3 : tie.Need-returns-3
 unfolding headRight
-returns-3 c = simp (sym (c .before .before .before .before .before .number4 .ensures), eq-eqb _ _ (c .before .before .before .before .if1 .left), sym (c .before .before .before .before .before .before .number2 .ensures .0), sym (c .before .before .before .count-right .ensures) ∙ not-false _ (c .before .before .if2 .left), sym (c .before .number22 .ensures .0), ne-eqb _ _ (c .if3 .taken))
-
-slice-aggregate-zero-from : tie.Need-slice-aggregate-zero-from
-slice-aggregate-zero-from c = sym (length-take-le _ (c .before .before .before .before .before .before .before .before .before .args .block .now) (omega arith))
+returns-3 c =
+    let g = c .before .before in
+    let f = g .before .before .before in
+    simp (
+      sym (f .number4 .ensures),
+      eq-eqb _ _ (g .before .before .if1 .left),
+      sym (f .before .number2 .ensures .0),
+      sym (g .before .count-right .ensures) ∙ not-false _ (g .if2 .left),
+      sym (c .before .number22 .ensures .0),
+      ne-eqb _ _ (c .if3 .taken),
+    )
 
 returns-4 : tie.Need-returns-4
 unfolding headRight
-returns-4 c = c .zero-from .ensures ∙ simp (sym (c .before .before .before .before .before .before .before .number4 .ensures), eq-eqb _ _ (c .before .before .before .before .before .before .if1 .left), sym (c .before .before .before .before .before .before .before .before .number2 .ensures .0), sym (c .before .before .before .before .before .count-right .ensures) ∙ not-false _ (c .before .before .before .before .if2 .left), sym (c .before .before .before .number22 .ensures .0), eq-eqb _ _ (c .before .before .if3 .left))
+returns-4 c =
+    let g = c .before .before .before in
+    let f = g .before .before .before in
+    c .zero-between .ensures
+    ∙ simp (
+      sym (f .number4 .ensures),
+      eq-eqb _ _ (g .before .before .if1 .left),
+      sym (f .before .number2 .ensures .0),
+      sym (g .before .count-right .ensures) ∙ not-false _ (g .if2 .left),
+      sym (c .before .before .number22 .ensures .0),
+      eq-eqb _ _ (c .before .if3 .left),
+    )
 
 pub head-right-spec : {M : Type 1} → statement M
 head-right-spec =
@@ -41,6 +59,5 @@ head-right-spec =
     (λ c. search needs)
     (λ c. search needs)
     (λ c. search needs)
-    slice-aggregate-zero-from
     (λ c κs. search needs)
     returns-4)

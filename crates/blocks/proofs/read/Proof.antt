@@ -3,36 +3,46 @@ use Prim.Native.Nat.{ℕ, _/_}
 use mathlib.Core.Path.{sym, ap, _∙_}
 use native.Mathlib.Omega.{arith}
 use mathlib.Core.Option.{some}
-use Rattle.blocks.proofs.Answers.{blocks-facts, read-refused, read-done, read-1, read-2, read-34, read-none}
+use Rattle.lists.specs.Answer.{done}
+use Rattle.blocks.proofs.Answers.{left, blocks-facts, read-refuses, read-gives, read-1, read-2, read-34, read-none}
 use borrow.Author.Needs.{needs}
 use Rattle.blocks.proofs.read.Statement.{statement}
 use Rattle.blocks.proofs.read.Tie as tie
 
 returns : tie.Need-returns
-returns c = let a = c .before .before .before .args in read-refused (a .file .now) (a .room .now) (read-1 (a .file .now) (a .room .now) (omega arith))
+returns c = let a = c .before .before .before .args in left (read-refuses (a .file .now) (a .room .now) (read-1 (a .file .now) (a .room .now) (omega arith)))
 
 returns-2 : tie.Need-returns-2
-returns-2 c = let a = c .before .before .before .before .before .args in read-refused (a .file .now) (a .room .now) (read-2 (a .file .now) (a .room .now) (omega arith) (sym (c .before .not-blocks .ensures) ∙ c .if2 .taken))
+returns-2 c =
+    let a = c .before .before .before .before .before .args in
+    left (read-refuses (a .file .now) (a .room .now) (read-2 (a .file .now) (a .room .now) (omega arith) (sym (c .before .not-blocks .ensures) ∙ c .if2 .taken)))
 
 after-blocks-requires : tie.Need-after-blocks-requires
-after-blocks-requires c κs = let f = blocks-facts (c .before .before .before .before .before .args .file .now) (sym (c .before .not-blocks .ensures) ∙ c .if2 .left) in (omega arith, f .2)
+after-blocks-requires c κs =
+    let f = blocks-facts (c .before .before .before .before .before .args .file .now) (sym (c .before .not-blocks .ensures) ∙ c .if2 .left) in
+    (omega arith, f .2)
 
 returns-3 : tie.Need-returns-3
 returns-3 c =
     let a = c .before .before .before .before .before .before .before .args in
     let e = c .before .after-blocks .ensures in
-    read-refused (a .file .now) (a .room .now) (read-34 (a .file .now) (a .room .now) (omega arith) (sym (c .before .before .before .not-blocks .ensures) ∙ c .before .before .if2 .left) (omega (arith, e)) ∙ ap some (sym e))
+    let whole = sym (c .before .before .before .not-blocks .ensures) ∙ c .before .before .if2 .left in
+    left (read-refuses (a .file .now) (a .room .now) (read-34 (a .file .now) (a .room .now) (omega arith) whole (omega (arith, e)) ∙ ap some (sym e)))
 
 copy-records-requires : tie.Need-copy-records-requires
 copy-records-requires c κs =
-    let f = blocks-facts (c .before .before .before .before .before .before .before .before .args .file .now) (sym (c .before .before .before .before .not-blocks .ensures) ∙ c .before .before .before .if2 .left) in
+    let a = c .before .before .before .before .before .before .before .before .args in
+    let f = blocks-facts (a .file .now) (sym (c .before .before .before .before .not-blocks .ensures) ∙ c .before .before .before .if2 .left) in
     (f .0, f .2, c .before .before .before .before .before .if1 .left, omega (arith, c .before .before .after-blocks .ensures))
 
 returns-4 : tie.Need-returns-4
 returns-4 c =
-    let a = c .before .before .before .before .before .before .before .before .before .before .before .args in
+    let b = c .before .before .before .before .before in
+    let a = b .before .before .before .before .before .before .args in
     let w = c .before .before .copy-records .ensures in
-    read-done (a .file .now) (a .room .now) (read-none (a .file .now) (a .room .now) (omega arith) (sym (c .before .before .before .before .before .before .before .not-blocks .ensures) ∙ c .before .before .before .before .before .before .if2 .left) (omega (arith, c .before .before .before .before .before .after-blocks .ensures))) (ap (λ (n : ℕ). n / 16) (w .0)) (w .1)
+    let whole = sym (b .before .before .not-blocks .ensures) ∙ b .before .if2 .left in
+    let l = left (read-gives (a .file .now) (a .room .now) (read-none (a .file .now) (a .room .now) (omega arith) whole (omega (arith, b .after-blocks .ensures)))) in
+    (ap (λ (n : ℕ). done (n / 16)) (w .0) ∙ l .0, w .1 ∙ l .1)
 
 pub read-spec : {M : Type 1} → statement M
 read-spec =

@@ -1,34 +1,41 @@
 -- `write` meets its contract: each return is the first refusal that applies, or none; the room is written at the last one only. Assumes nothing.
 use Prim.Native.Nat.{_≤_, _*_}
-use mathlib.Core.Path.{_≡_, sym}
+use mathlib.Core.Path.{_≡_, sym, _∙_}
 use native.Mathlib.Omega.{arith}
 use lib.ListN.{length, take}
 use lib.Seq.{length-take-le}
-use Rattle.blocks.proofs.Answers.{write-refused, write-done, write-short, write-room, write-many, write-wrong, write-none, no-records, wrong-records, right-records, stage-some}
+use Rattle.blocks.proofs.Answers.{left, write-refuses, write-gives, write-short, write-room, write-many, write-wrong, write-none, no-records, wrong-records, right-records, stage-some}
 use borrow.Author.Needs.{needs}
 use Rattle.blocks.proofs.write.Statement.{statement}
 use Rattle.blocks.proofs.write.Tie as tie
 
 returns : tie.Need-returns
-returns c = let a = c .before .before .before .args in write-refused (a .records .now) (a .count) (a .room .now) (write-short (a .records .now) (a .count) (a .room .now) (omega arith))
+returns c =
+    let a = c .before .before .before .args in
+    left (write-refuses (a .records .now) (a .count) (a .room .now) (write-short (a .records .now) (a .count) (a .room .now) (omega arith)))
 
 returns-2 : tie.Need-returns-2
-returns-2 c = let a = c .before .before .before .before .args in write-refused (a .records .now) (a .count) (a .room .now) (write-room (a .records .now) (a .count) (a .room .now) (omega arith) (omega arith))
+returns-2 c =
+    let a = c .before .before .before .before .args in
+    left (write-refuses (a .records .now) (a .count) (a .room .now) (write-room (a .records .now) (a .count) (a .room .now) (omega arith) (omega arith)))
 
 returns-3 : tie.Need-returns-3
-returns-3 c = let a = c .before .before .before .before .before .args in write-refused (a .records .now) (a .count) (a .room .now) (write-many (a .records .now) (a .count) (a .room .now) (omega arith) (omega arith) (omega arith))
+returns-3 c =
+    let a = c .before .before .before .before .before .args in
+    left (write-refuses (a .records .now) (a .count) (a .room .now) (write-many (a .records .now) (a .count) (a .room .now) (omega arith) (omega arith) (omega arith)))
 
 returns-4 : tie.Need-returns-4
 returns-4 c =
     let a = c .before .before .before .before .before .before .before .args in
-    let e = c .before .after-records .ensures in
-    write-refused (a .records .now) (a .count) (a .room .now) (write-wrong (a .records .now) (a .count) (a .room .now) (omega arith) (omega arith) (omega arith) (no-records (a .records .now) (a .count) (omega (arith, e))))
+    let wrong = no-records (a .records .now) (a .count) (omega (arith, c .before .after-records .ensures)) in
+    left (write-refuses (a .records .now) (a .count) (a .room .now) (write-wrong (a .records .now) (a .count) (a .room .now) (omega arith) (omega arith) (omega arith) wrong))
 
 returns-5 : tie.Need-returns-5
 returns-5 c =
     let a = c .before .before .before .before .before .before .before .before .args in
     let e = c .before .before .after-records .ensures in
-    write-refused (a .records .now) (a .count) (a .room .now) (write-wrong (a .records .now) (a .count) (a .room .now) (omega arith) (omega arith) (omega arith) (wrong-records (a .records .now) (a .count) (omega (arith, e)) (omega (arith, e))))
+    let wrong = wrong-records (a .records .now) (a .count) (omega (arith, e)) (omega (arith, e)) in
+    left (write-refuses (a .records .now) (a .count) (a .room .now) (write-wrong (a .records .now) (a .count) (a .room .now) (omega arith) (omega arith) (omega arith) wrong))
 
 slice-aggregate-write-blocks : tie.Need-slice-aggregate-write-blocks
 slice-aggregate-write-blocks c = sym (length-take-le _ (c .before .before .before .before .before .before .before .before .before .args .records .now) (omega arith))
@@ -43,9 +50,12 @@ write-blocks-requires c κs =
 
 returns-6 : tie.Need-returns-6
 returns-6 c =
-    let a = c .before .before .before .before .before .before .before .before .before .before .before .before .before .args in
-    let e = c .before .before .before .before .before .before .before .after-records .ensures in
-    write-done (a .records .now) (a .count) (a .room .now) (write-none (a .records .now) (a .count) (a .room .now) (omega arith) (omega arith) (omega arith) (right-records (a .records .now) (a .count) (omega (arith, e)) (omega (arith, e)))) (c .before .before .write-blocks .ensures)
+    let b = c .before .before .before .before .before .before .before in
+    let a = b .before .before .before .before .before .before .args in
+    let e = b .after-records .ensures in
+    let right = right-records (a .records .now) (a .count) (omega (arith, e)) (omega (arith, e)) in
+    let l = left (write-gives (a .records .now) (a .count) (a .room .now) (write-none (a .records .now) (a .count) (a .room .now) (omega arith) (omega arith) (omega arith) right)) in
+    (l .0, c .before .before .write-blocks .ensures ∙ l .1)
 
 pub write-spec : {M : Type 1} → statement M
 write-spec =

@@ -1,4 +1,4 @@
--- `write_block` meets its contract: its six writes, one behind the other, are the block. Assumes nothing.
+-- `write_block` meets its contract: its five writes, one behind the other, are the block. Assumes nothing.
 use mathlib.Core.Path.{sym}
 use native.Mathlib.Omega.{arith}
 use lib.Seq.{length-take-le}
@@ -12,9 +12,14 @@ slice-aggregate-block-check c = sym (length-take-le _ (c .before .before .before
 
 returns : tie.Need-returns
 returns c =
-    let a = c .before .before .before .before .before .before .before .before .before .before .before .before .before .before .before .before .before .before .before .before .before .before .before .before .before .before .before .before in
-    written-block (a .args .block .now) (a .args .number) (a .args .records .now) (a .pre .0) (a .pre .1) (c .before .before .before .before .before .before .before .before .before .before .before .before .before .before .before .before .before .before .before .before .before .before .before .before .put4 .ensures) (c .before .before .before .before .before .before .before .before .before .before .before .before .before .before .before .before .before .before .before .before .put2 .ensures)
-    (c .before .before .before .before .before .before .before .before .before .before .before .before .before .before .before .before .put22 .ensures) (c .before .before .before .before .before .before .before .before .before .before .before .before .copy-at .ensures) (c .before .before .before .before .before .before .before .before .put-zeros .ensures) (c .before .before .before .before .block-check .ensures) (c .before .before .put42 .ensures)
+    let check = c .before .before .before .before in
+    let zeros = check .before .before .before .before in
+    let records = zeros .before .before .before .before in
+    let count = records .before .before .before .before in
+    let first = count .before .before .before .before in
+    let a = first .before .before .before .before in
+    written-block (a .args .block .now) (a .args .number) (a .args .records .now) (a .pre .0) (a .pre .1)
+    (first .put4 .ensures) (count .put42 .ensures) (records .copy-at .ensures) (zeros .put-zeros .ensures) (check .block-check .ensures) (c .before .before .put43 .ensures)
 
 pub write-block-spec : {M : Type 1} → statement M
 write-block-spec =
@@ -24,7 +29,8 @@ write-block-spec =
     (λ c. search needs)
     (λ c κs. search needs)
     (λ c κs. search needs)
-    (λ c κs. search needs)
+    (λ c. search needs)
+    (λ c. search needs)
     (λ c. search needs)
     (λ c κs. search needs)
     (λ c. search needs)

@@ -4,8 +4,8 @@ use mathlib.Core.Path.{_≡_, refl, _∙_}
 use native.Mathlib.Omega.{arith}
 use lib.ListN.{length, drop, length-take, length-drop}
 use borrow.Author.Needs.{needs}
-use Rattle.blocks.specs.Inner.{overAt}
-use Rattle.intervals.specs.Lists.{over}
+use Rattle.octets.specs.Writes.{overAt}
+use Rattle.lists.specs.Lists.{over}
 use Rattle.blocks.specs.File.{blocksOf}
 use Rattle.blocks.proofs.Making.{make-start, make-length, make-turn, make-end}
 use Rattle.blocks.proofs.write_blocks.Statement.{statement}

@@ -9,15 +9,17 @@ use borrow.Author.Needs.{needs}
 use borrow.Fn.Kinds.{In}
 use borrow.Fn.PlainCycle.{Measures, is, falls, and}
 use lib.ListN.{length, set, length-set}
-use Rattle.intervals.specs.Hierarchy.{edgesOf}
+use Rattle.hierarchy.specs.Hierarchy.{edgesOf}
 use Rattle.intervals.specs.Numbering.{Walk, at as walkAt, walk as walked, meet, marked}
-use Rattle.intervals.specs.Inner.{zeros, Ready}
-use Rattle.intervals.proofs.Marks.{getD-any, opened}
+use Rattle.lists.specs.Lists.{zeros}
+use Rattle.intervals.specs.Inner.{Ready}
+use Rattle.lists.proofs.Marks.{opened}
+use Rattle.lists.proofs.Loops.{getD-any}
 use Rattle.intervals.proofs.Walks.{Left, left-start, left-within, left-other, left-child, left-end, walk-end, meet-unseen, meet-other, meet-open, meet-numbered, lastIf}
 use Rattle.intervals.proofs.walk.Reads as own
 use Rattle.intervals.proofs.walk.Kinds as kinds
 use Rattle.intervals.proofs.+walk.Lts-walk as lts
-use Rattle.intervals.proofs.edge_at.Reads as edge-at-reads
+use Rattle.hierarchy.proofs.edge_at.Reads as edge-at-reads
 use Rattle.intervals.proofs.+walk.{statement}
 use Rattle.intervals.proofs.+walk.Tie.{close}
 
@@ -49,7 +51,7 @@ module _ (t : ℕ) (c : lts.At-loop (calls t) (here t) own.Post Inv μ) where
   first₀ = c .before .before .before .before .args .next
 
   abbrev count₀ : ℕ
-  count₀ = c .before .before .before .before .args .count
+  count₀ = c .before .before .before .before .args .edge-count
 
   abbrev edges₀ : List ℕ
   edges₀ = c .before .before .before .before .args .edges .now
@@ -94,7 +96,12 @@ module _ (t : ℕ) (c : lts.After-edge-at (calls t) (here t) own.Post Inv μ) wh
   in-marks : child < length (c .before .before .loop .marks)
   in-marks =
       let l = c .before .before in
-      omega (arith, marks-long t l, left-within (length (marks₀ t l)) (count₀ t l) (edges₀ t l) (ready t l .ends) (node₀ t l) _ (l .loop .left) (l .loop .leaf) (now-at t l) (l .loop .inv) (c .before .loop-test .taken) (c .edge-at .result) (c .edge-at .ensures))
+      omega (
+        arith,
+        marks-long t l,
+        left-within (length (marks₀ t l)) (count₀ t l) (edges₀ t l) (ready t l .ends) (node₀ t l) _ (l .loop .left) (l .loop .leaf) (now-at t l)
+            (l .loop .inv) (c .before .loop-test .taken) (c .edge-at .result) (c .edge-at .ensures),
+      )
 
   in-numbers : child < length (c .before .before .loop .numbers)
   in-numbers = omega (arith, in-marks, marks-long t (c .before .before), numbers-long t (c .before .before))
@@ -106,14 +113,17 @@ module _ (t : ℕ) (c : lts.After-edge-at (calls t) (here t) own.Post Inv μ) wh
   other : (c .edge-at .result .parent ≡ node₀ t (c .before .before) → ⊥) → Next (c .before .before .loop .leaf) (now-at t (c .before .before))
   other =
       let l = c .before .before in
-      left-other (length (marks₀ t l)) (count₀ t l) (edges₀ t l) (ready t l .ends) (node₀ t l) _ (l .loop .left) (l .loop .leaf) (now-at t l) (l .loop .inv) (c .before .loop-test .taken) (c .edge-at .result) (c .edge-at .ensures)
+      left-other (length (marks₀ t l)) (count₀ t l) (edges₀ t l) (ready t l .ends) (node₀ t l) _ (l .loop .left) (l .loop .leaf) (now-at t l) (l .loop .inv)
+      (c .before .loop-test .taken) (c .edge-at .result) (c .edge-at .ensures)
 
   met : c .edge-at .result .parent ≡ node₀ t (c .before .before) → (s : Walk)
-      → ((k : ℕ) → zeros (set (marks₀ t (c .before .before)) (node₀ t (c .before .before)) 1) ≤ k → s ≡ meet (walked k (edgesOf (edges₀ t (c .before .before)) (count₀ t (c .before .before)))) child (now-at t (c .before .before)))
+      → ((k : ℕ) → zeros (set (marks₀ t (c .before .before)) (node₀ t (c .before .before)) 1) ≤ k → s ≡ meet
+      (walked k (edgesOf (edges₀ t (c .before .before)) (count₀ t (c .before .before)))) child (now-at t (c .before .before)))
       → Next false s
   met p s q =
       let l = c .before .before in
-      left-child (length (marks₀ t l)) (count₀ t l) (edges₀ t l) (ready t l .ends) (node₀ t l) _ (l .loop .left) (l .loop .leaf) (now-at t l) (l .loop .inv) (c .before .loop-test .taken) (c .edge-at .result) (c .edge-at .ensures) p (ready t l .first) s q
+      left-child (length (marks₀ t l)) (count₀ t l) (edges₀ t l) (ready t l .ends) (node₀ t l) _ (l .loop .left) (l .loop .leaf) (now-at t l) (l .loop .inv)
+      (c .before .loop-test .taken) (c .edge-at .result) (c .edge-at .ensures) p (ready t l .first) s q
 
 loop-holds : (t : ℕ) → lts.Need-loop-holds (calls t) (here t) own.Post Inv μ
 loop-holds t c = left-start (length (c .before .before .before .args .marks .now)) _ _ (c .before .before .before .pre .1 .ends) _ _
@@ -122,7 +132,7 @@ sub-edge-at : (t : ℕ) → lts.Need-sub-edge-at (calls t) (here t) own.Post Inv
 sub-edge-at t c = omega (arith, c .before .loop .inv .so-far)
 
 edge-at-requires : (t : ℕ) → lts.Need-edge-at-requires (calls t) (here t) own.Post Inv μ
-edge-at-requires t c κs = omega (arith, c .before .loop .inv .so-far, ready t (c .before) .ends .table)
+edge-at-requires t c κs = search needs
 
 slice-read-if2 : (t : ℕ) → lts.Need-slice-read-if2 (calls t) (here t) own.Post Inv μ
 slice-read-if2 t c = in-marks t (c .before .before .before)
@@ -146,7 +156,8 @@ loop-again : (t : ℕ) → lts.Need-loop-again (calls t) (here t) own.Post Inv �
 loop-again t c =
     let e = c .before .before .before .before .before .before .before .before .before .before .before in
     met t e (c .before .before .before .before .before .before .before .before .before .if1 .taken) _
-    (λ k le. c .before .before .before .before .walk .ensures k (omega (arith, e .before .before .loop .inv .after .seen)) ∙ sym (meet-unseen _ (child t e) (now-at t (e .before .before)) (in-marks t e) (c .before .before .before .before .before .before .before .if2 .taken)))
+    (λ k le. c .before .before .before .before .walk .ensures k (omega (arith, e .before .before .loop .inv .after .seen)) ∙ sym
+    (meet-unseen _ (child t e) (now-at t (e .before .before)) (in-marks t e) (c .before .before .before .before .before .before .before .if2 .taken)))
 
 slice-read-if3 : (t : ℕ) → lts.Need-slice-read-if3 (calls t) (here t) own.Post Inv μ
 slice-read-if3 t c = in-marks t (c .before .before .before .before .before)
@@ -169,12 +180,14 @@ add-at t c = omega (arith, few t (c .before .before .before .before .before .bef
 loop-again-2 : (t : ℕ) → lts.Need-loop-again-2 (calls t) (here t) own.Post Inv μ
 loop-again-2 t c =
     let e = c .before .before .before .before .before .before .before .before in
-    met t e (c .before .before .before .before .before .before .if1 .taken) _ (λ k le. sym (meet-open _ (child t e) (now-at t (e .before .before)) (in-marks t e) (in-numbers t e) (c .before .before .if3 .taken) (c .if4 .taken)))
+    met t e (c .before .before .before .before .before .before .if1 .taken) _
+    (λ k le. sym (meet-open _ (child t e) (now-at t (e .before .before)) (in-marks t e) (in-numbers t e) (c .before .before .if3 .taken) (c .if4 .taken)))
 
 loop-again-3 : (t : ℕ) → lts.Need-loop-again-3 (calls t) (here t) own.Post Inv μ
 loop-again-3 t c =
     let e = c .before .before .before .before .before .before .before .before in
-    met t e (c .before .before .before .before .before .before .if1 .taken) _ (λ k le. sym (meet-numbered _ (child t e) (now-at t (e .before .before)) (in-marks t e) (in-numbers t e) (c .before .before .if3 .taken) (c .if4 .left)))
+    met t e (c .before .before .before .before .before .before .if1 .taken) _
+    (λ k le. sym (meet-numbered _ (child t e) (now-at t (e .before .before)) (in-marks t e) (in-numbers t e) (c .before .before .if3 .taken) (c .if4 .left)))
 
 loop-again-4 : (t : ℕ) → lts.Need-loop-again-4 (calls t) (here t) own.Post Inv μ
 loop-again-4 t c =
@@ -204,7 +217,8 @@ same-length-2 t c = length-set (c .before .before .loop .numbers) (node₀ t (c 
 
 returns : (t : ℕ) → lts.Need-returns (calls t) (here t) own.Post Inv μ
 returns t c = λ k h.
-    ap (λ (b : Bool). marked (node₀ t (c .before .before)) 2 (lastIf b (node₀ t (c .before .before)) (now-at t (c .before .before)))) (sym (c .if5 .taken)) ∙ done t (c .before .before) (omega (arith, c .before .loop-test .left)) k h
+    ap (λ (b : Bool). marked (node₀ t (c .before .before)) 2 (lastIf b (node₀ t (c .before .before)) (now-at t (c .before .before)))) (sym (c .if5 .taken)) ∙ done t (c .before .before)
+    (omega (arith, c .before .loop-test .left)) k h
 
 same-length-3 : (t : ℕ) → lts.Need-same-length-3 (calls t) (here t) own.Post Inv μ
 same-length-3 t c = length-set (c .before .before .loop .marks) (node₀ t (c .before .before)) 2 ∙ marks-long t (c .before .before)
@@ -214,7 +228,8 @@ same-length-4 t c = c .before .before .loop .inv .after .numbers-long
 
 returns-2 : (t : ℕ) → lts.Need-returns-2 (calls t) (here t) own.Post Inv μ
 returns-2 t c = λ k h.
-    ap (λ (b : Bool). marked (node₀ t (c .before .before)) 2 (lastIf b (node₀ t (c .before .before)) (now-at t (c .before .before)))) (sym (c .if5 .left)) ∙ done t (c .before .before) (omega (arith, c .before .loop-test .left)) k h
+    ap (λ (b : Bool). marked (node₀ t (c .before .before)) 2 (lastIf b (node₀ t (c .before .before)) (now-at t (c .before .before)))) (sym (c .if5 .left)) ∙ done t (c .before .before)
+    (omega (arith, c .before .loop-test .left)) k h
 
 pub +walk-spec : {M : Type 1} → statement M
 +walk-spec =

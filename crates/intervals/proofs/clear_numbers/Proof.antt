@@ -3,7 +3,7 @@ use Prim.Native.Nat.{_-_}
 use native.Mathlib.Omega.{arith}
 use borrow.Author.Needs.{needs}
 use lib.ListN.{length, length-set}
-use Rattle.intervals.proofs.Loops.{Filling, filling-start, filling-more, filling-end}
+use Rattle.lists.proofs.Loops.{Filling, filling-start, filling-more, filling-end}
 use Rattle.intervals.proofs.clear_numbers.Statement.{statement}
 use Rattle.intervals.proofs.clear_numbers.Tie as tie
 

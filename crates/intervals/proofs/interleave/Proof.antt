@@ -43,7 +43,8 @@ slice-write-table-2 : tie.Need-slice-write-table-2 Inv-loop μ-loop
 slice-write-table-2 c = simp length-set (omega (arith, c .before .before .before .loop .inv, c .before .before .before .before .before .before .pre))
 
 loop-again : tie.Need-loop-again Inv-loop μ-loop
-loop-again c = doubling-more _ _ _ (c .before .before .before .before .before .before .pre .0) (c .before .before .before .before .before .before .pre .1) _ _ (c .before .before .before .loop .inv) (c .or-most .result) (c .before .before .loop-test .taken) (c .or-most .ensures)
+loop-again c = doubling-more _ _ _ (c .before .before .before .before .before .before .pre .0) (c .before .before .before .before .before .before .pre .1) _ _
+    (c .before .before .before .loop .inv) (c .or-most .result) (c .before .before .loop-test .taken) (c .or-most .ensures)
 
 same-length : tie.Need-same-length Inv-loop μ-loop
 same-length c = c .before .loop .inv .long

@@ -5,10 +5,13 @@ use Rattle.intervals.proofs.number.Statement.{statement}
 use Rattle.intervals.proofs.number.Tie as tie
 
 walk-requires : tie.Need-walk-requires
-walk-requires c κs = fresh-ready _ _ _ _ _ _ (c .before .before .before .before .before .before .before .before .before .before .before .before .before .pre) (c .before .before .before .before .before .before .before .before .clear .ensures) (c .before .before .before .before .clear-numbers .ensures)
+walk-requires c κs = fresh-ready _ _ _ _ _ _ (c .before .before .before .before .before .before .before .before .before .before .before .before .before .pre)
+    (c .before .before .before .before .before .before .before .before .clear .ensures) (c .before .before .before .before .clear-numbers .ensures)
 
 returns : tie.Need-returns
-returns c = fresh-end _ _ _ _ _ _ (c .before .before .before .before .before .before .before .before .before .before .before .before .before .before .before .before .before .before .pre) (c .before .before .before .before .before .before .before .before .before .before .before .before .before .clear .ensures) (c .before .before .before .before .before .before .before .before .before .clear-numbers .ensures) _ (c .before .before .before .before .walk .ensures)
+returns c = fresh-end _ _ _ _ _ _ (c .before .before .before .before .before .before .before .before .before .before .before .before .before .before .before .before .before .before
+    .pre) (c .before .before .before .before .before .before .before .before .before .before .before .before .before .clear .ensures)
+    (c .before .before .before .before .before .before .before .before .before .clear-numbers .ensures) _ (c .before .before .before .before .walk .ensures)
 
 pub number-spec : {M : Type 1} → statement M
 number-spec =

@@ -3,7 +3,7 @@ use Prim.Native.Nat.{_+_, _*_, _<_}
 use native.Mathlib.Omega.{arith}
 use lib.ListN.{length}
 use borrow.Author.Needs.{needs}
-use Rattle.intervals.proofs.Tables.{Relaxing, relaxing-start, turn-below, in-table, relaxing-more, relaxing-end}
+use Rattle.intervals.proofs.Tables.{Relaxing, relaxing-start, in-table, relaxing-more, relaxing-end}
 use Rattle.intervals.proofs.relax_once.Statement.{statement}
 use Rattle.intervals.proofs.relax_once.Tie as tie
 
@@ -15,9 +15,11 @@ abbrev μ-loop : tie.MeasureT-loop
 
 -- the places of both ends are in the table, and a usize holds them
 within : (c : tie.After-edge-at Inv-loop μ-loop)
-    → (2 * (c .edge-at .result .parent) + 1 < length (c .before .before .before .loop .table)) × (2 * (c .edge-at .result .child) + 1 < length (c .before .before .before .loop .table)) × (length (c .before .before .before .loop .table) < 18446744073709551616)
+    → (2 * (c .edge-at .result .parent) + 1 < length (c .before .before .before .loop .table)) ×
+    (2 * (c .edge-at .result .child) + 1 < length (c .before .before .before .loop .table)) × (length (c .before .before .before .loop .table) < 18446744073709551616)
 within c = let l = c .before .before .before in
-    let w = in-table _ _ _ _ (l .before .before .before .pre) _ _ _ (l .loop .inv) (c .before .before .loop-test .taken) (c .before .turn-at .result) (c .before .turn-at .ensures) (c .edge-at .result) (c .edge-at .ensures) in
+    let w = in-table _ _ _ _ (l .before .before .before .pre) _ _ _ (l .loop .inv) (c .before .before .loop-test .taken) (c .before .turn-at .result) (c .before .turn-at .ensures)
+    (c .edge-at .result) (c .edge-at .ensures) in
     (w .0, w .1, omega (arith, l .loop .inv .long, l .before .before .before .good))
 
 loop-holds : tie.Need-loop-holds Inv-loop μ-loop
@@ -25,10 +27,6 @@ loop-holds c = relaxing-start _ _ _ _ (λ i. omega (arith, c .slice-known .given
 
 turn-at-requires : tie.Need-turn-at-requires Inv-loop μ-loop
 turn-at-requires c κs = (c .loop-test .taken, c .before .loop .inv .so-far)
-
-edge-at-requires : tie.Need-edge-at-requires Inv-loop μ-loop
-edge-at-requires c κs = let l = c .before .before in
-    omega (arith, c .turn-at .ensures, turn-below (l .before .before .before .args .back) (l .before .before .before .args .count) (l .loop .left) (c .before .loop-test .taken) (l .loop .inv .so-far), l .before .before .before .pre .table)
 
 mul-to : tie.Need-mul-to Inv-loop μ-loop
 mul-to c = omega (arith, within (c .before))
@@ -54,7 +52,8 @@ loop-again c = let j = c .before .before in
     let i = j .before .before .before .before in
     let e = i .before .before .before .before in
     let l = e .before .before .before in
-    relaxing-more _ _ _ _ (l .before .before .before .pre) _ _ _ (l .loop .inv) (e .before .before .loop-test .taken) (e .before .turn-at .result) (e .before .turn-at .ensures) (e .edge-at .result) (e .edge-at .ensures)
+    relaxing-more _ _ _ _ (l .before .before .before .pre) _ _ _ (l .loop .inv) (e .before .before .loop-test .taken) (e .before .turn-at .result) (e .before .turn-at .ensures)
+    (e .edge-at .result) (e .edge-at .ensures)
     (i .improve .last .1 .1 .1 .0) (j .improve2 .last .1 .1 .1 .0) (i .improve .result) (j .improve2 .result)
     (i .improve .ensures .0) (i .improve .ensures .1) (j .improve2 .ensures .0) (j .improve2 .ensures .1)
     (λ k. omega (arith, j .before .before .slice-known2 .given k)) (λ k. omega (arith, c .slice-known3 .given k))
@@ -75,7 +74,7 @@ relax-once-spec =
     μ-loop
     loop-holds
     turn-at-requires
-    edge-at-requires
+    (λ c κs. search needs)
     mul-to
     mul-from
     (λ c. search needs)

@@ -1,7 +1,8 @@
 -- `settle` meets its contract: passes go on until no edge has anything left to do. Assumes nothing.
-use Rattle.intervals.specs.Hierarchy.{edgesOf}
-use Rattle.intervals.specs.Inner.{oneIf, tableWeight}
-use Rattle.intervals.proofs.Passes.{went-less}
+use Rattle.hierarchy.specs.Hierarchy.{edgesOf}
+use Rattle.lists.specs.Lists.{oneIf}
+use Rattle.intervals.specs.Inner.{tableWeight}
+use Rattle.lists.proofs.Passes.{went-less}
 use Rattle.intervals.proofs.Tables.{Settling, settling-start, settling-more, settling-end}
 use Rattle.intervals.proofs.settle.Statement.{statement}
 use Rattle.intervals.proofs.settle.Tie as tie

@@ -14,7 +14,9 @@ slice-aggregate-clear c = sym (length-take-le _ (c .before .before .args .scratc
 
 returns : tie.Need-returns
 returns c = let l = c .before .before .before .before .before .args .scratch .now in
-    laid 2048 (replicate 2048 0) (c .before .before .clear .last .0) l (c .before .before .clear .ensures ∙ ap (λ (k : ℕ). replicate k 0) (length-take-le 2048 l (c .before .before .before .before .before .pre))) (c .before .before .before .before .before .pre) (c .before .before .clear .kept .0)
+    laid 2048 (replicate 2048 0) (c .before .before .clear .last .0) l
+    (c .before .before .clear .ensures ∙ ap (λ (k : ℕ). replicate k 0) (length-take-le 2048 l (c .before .before .before .before .before .pre)))
+    (c .before .before .before .before .before .pre) (c .before .before .clear .kept .0)
 
 pub wipe-spec : {M : Type 1} → statement M
 wipe-spec =

@@ -4,10 +4,10 @@ use mathlib.Core.List.{List}
 use Prim.Native.Nat.{ℕ, _*_}
 use native.Mathlib.Omega.{arith}
 use lib.ListN.{length}
-use Rattle.intervals.specs.Hierarchy.{edgesOf}
+use Rattle.hierarchy.specs.Hierarchy.{edgesOf}
 use Rattle.intervals.specs.Numbering.{numbering}
 use Rattle.intervals.specs.Inner.{doubled, lows}
-use Rattle.intervals.proofs.Legals.{promised}
+use Rattle.hierarchy.proofs.Legals.{promised}
 use Rattle.intervals.proofs.Tables.{lows-long}
 use Rattle.intervals.proofs.Writes.{legal-edges, written}
 use borrow.Author.Needs.{needs}
@@ -22,7 +22,7 @@ module _ (c : tie.After-interleave) where
   n = start .args .n
 
   abbrev es : List ℕ
-  es = edgesOf (start .args .edges .now) (start .args .count)
+  es = edgesOf (start .args .edges .now) (start .args .edge-count)
 
   long : length (c .interleave .last .1 .1 .0) ≡ 2 * n
   long = c .interleave .kept .1 .1 .0 ∙ start .pre .long
@@ -36,12 +36,13 @@ interleave-requires c κs = (c .before .before .before .before .pre .enough, c .
 settle-requires : tie.Need-settle-requires
 settle-requires c κs = let l = c .before .before .before in let s = start l in
     let e : length (lows (l .interleave .last .1 .1 .0)) ≡ n l = omega (arith, lows-long (l .interleave .last .1 .1 .0), long l) in
-    rw e (legal-edges (n l) (s .args .edges .now) (s .args .count) (s .pre .legal) (s .pre .whole))
+    rw e (legal-edges (n l) (s .args .edges .now) (s .args .edge-count) (s .pre .legal) (s .pre .whole))
 
 returns : tie.Need-returns
 returns c = let l = c .before .before .before .before .before .before in let s = start l in
-    written (n l) (es l) (promised (n l) (s .args .edges .now) (s .args .count) (s .pre .legal)) (l .interleave .last .1 .1 .0) (c .before .before .settle .last .1 .1 .0) (doubles l)
-    (λ i. omega (arith, c .before .before .before .before .slice-known2 .given i)) (c .before .before .settle .kept .1 .1 .0 ∙ long l) (c .before .before .settle .ensures .0) (c .before .before .settle .ensures .1)
+    written (n l) (es l) (promised (n l) (s .args .edges .now) (s .args .edge-count) (s .pre .legal)) (l .interleave .last .1 .1 .0) (c .before .before .settle .last .1 .1 .0) (doubles l)
+    (λ i. omega (arith, c .before .before .before .before .slice-known2 .given i)) (c .before .before .settle .kept .1 .1 .0 ∙ long l) (c .before .before .settle .ensures .0)
+    (c .before .before .settle .ensures .1)
 
 pub write-intervals-spec : {M : Type 1} → statement M
 write-intervals-spec =

@@ -1,21 +1,22 @@
--- `list_file` meets its contract: the file is refused as reading refuses it, or its records are listed. Assumes nothing.
-use mathlib.Core.Path.{sym, ap, _∙_}
-use mathlib.Core.List.{List}
-use Prim.Native.Nat.{ℕ, _*_, _≤_}
+-- `list_file` meets its contract: a refused file has one line, and an opened one its run. Assumes nothing.
 use native.Mathlib.Omega.{arith}
-use lib.ListN.{length}
-use lib.Seq.{length-take-le}
 use borrow.Author.Needs.{needs}
-use Rattle.replay.specs.Replay.{recordList, runRecords}
+use Rattle.opening.proofs.Opens.{Ready, opened-refused, opened-ready}
+use Rattle.lines.proofs.Files.{refused-listed}
 use Rattle.lines.proofs.list_file.Statement.{statement}
 use Rattle.lines.proofs.list_file.Tie as tie
-use Rattle.lines.proofs.Files.{refused-listed, file-refused, file-read, file-whole, file-front, listed-as}
 
-slice-aggregate-read : tie.Need-slice-aggregate-read
-slice-aggregate-read c = search needs
+slice-aggregate-open-run : tie.Need-slice-aggregate-open-run
+slice-aggregate-open-run c = search needs
 
-read-requires : tie.Need-read-requires
-read-requires c κs = search needs
+slice-aggregate-open-run-2 : tie.Need-slice-aggregate-open-run-2
+slice-aggregate-open-run-2 c = search needs
+
+slice-aggregate-open-run-3 : tie.Need-slice-aggregate-open-run-3
+slice-aggregate-open-run-3 c = search needs
+
+open-run-requires : tie.Need-open-run-requires
+open-run-requires c κs = search needs
 
 enum-known-answer : tie.Need-enum-known-answer
 enum-known-answer c = search needs
@@ -26,27 +27,41 @@ put-refused-requires c κs = search needs
 enum-known-answer-2 : tie.Need-enum-known-answer-2
 enum-known-answer-2 c = search needs
 
-mul-end : tie.Need-mul-end
-mul-end c = let z = c .before .before .before .before .before .before .before .before .before .args in let a = c .before .answer2 .given in let f = file-whole (z .file .now) _ (c .before .before .before .before .before .before .before .before .before .pre .0) (omega arith) (c .before .before .before .before .read .result) (c .before .before .before .before .read .ensures .0) (a .0 .0) (a .1) in omega (arith, f .1)
+-- what the opened file has in its places
+module _ (c : tie.After-known-told2) where
+  ready : Ready (c .before .before .before .before .before .before .before .before .before .before .before .before .before .args .file .now)
+      (c .before .answer2 .given .0 .0) (c .before .answer2 .given .0 .1 .0) (c .before .answer2 .given .0 .1 .1 .0)
+      (c .before .before .before .before .before .before .open-run .last .1 .0) (c .before .before .before .before .before .before .open-run .last .1 .1 .0)
+      (c .before .before .before .before .before .before .open-run .last .1 .1 .1 .0)
+  ready =
+      let o = c .before .before .before .before .before .before .open-run in let a = c .before .answer2 .given in
+      opened-ready (c .before .before .before .before .before .before .before .before .before .before .before .before .before .args .file .now) _ _ _
+      (o .result) (omega arith) (omega arith) (omega arith) (o .ensures) (a .0 .0) (a .0 .1 .0) (a .0 .1 .1 .0) (a .1)
 
-array-share-prefix-room : tie.Need-array-share-prefix-room
-array-share-prefix-room c = let z = c .before .before .before .before .before .before .before .before .before .args in let a = c .before .answer2 .given in let f = file-whole (z .file .now) _ (c .before .before .before .before .before .before .before .before .before .pre .0) (omega arith) (c .before .before .before .before .read .result) (c .before .before .before .before .read .ensures .0) (a .0 .0) (a .1) in omega (arith, f .1, c .before .before .before .room2 .given)
+slice-aggregate-list-opened : tie.Need-slice-aggregate-list-opened
+slice-aggregate-list-opened c = search needs
 
-slice-aggregate-list-records : tie.Need-slice-aggregate-list-records
-slice-aggregate-list-records c = let z = c .before .before .before .before .before .before .before .before .before .before .args in let a = c .before .before .answer2 .given in let f = file-whole (z .file .now) _ (c .before .before .before .before .before .before .before .before .before .before .pre .0) (omega arith) (c .before .before .before .before .before .read .result) (c .before .before .before .before .before .read .ensures .0) (a .0 .0) (a .1) in
-    let h : 16 * a .0 .0 ≤ length (c .before .before .before .before .before .read .last .1 .0) = omega (arith, f .1, c .before .before .before .before .room2 .given) in sym (length-take-le _ _ h)
+slice-aggregate-list-opened-2 : tie.Need-slice-aggregate-list-opened-2
+slice-aggregate-list-opened-2 c = search needs
 
-list-records-requires : tie.Need-list-records-requires
-list-records-requires c κs = let z = c .before .before .before .before .before .before .before .before .before .before .before .before .args in let a = c .before .before .before .before .answer2 .given in let r = c .before .before .before .before .before .before .before .read in let f = file-whole (z .file .now) _ (c .before .before .before .before .before .before .before .before .before .before .before .before .pre .0) (omega arith) (r .result) (r .ensures .0) (a .0 .0) (a .1) in
-    let front = file-front (z .file .now) _ (c .before .before .before .before .before .before .before .before .before .before .before .before .pre .0) (omega arith) (r .result) (r .ensures .0) (a .0 .0) (a .1) (r .ensures .1) in
-    (omega (arith, ap length front, f .0, f .1), c .before .before .before .before .before .before .before .before .before .before .before .before .pre .1, c .before .before .before .before .before .before .before .before .before .before .before .before .pre .2)
+slice-aggregate-list-opened-3 : tie.Need-slice-aggregate-list-opened-3
+slice-aggregate-list-opened-3 c = search needs
+
+list-opened-requires : tie.Need-list-opened-requires
+list-opened-requires c κs = let s = c .before .before .before .before .before in let r = ready s in let e = s .before .before .before in (
+  (r .n-most, r .edges-most, r .records-most),
+  (omega (arith, e .places2 .given), omega (arith, e .before .edges2 .given), omega (arith, e .before .before .records2 .given), e .before .before .before .before .before .before .before .before .before .before .pre),
+)
 
 same-length : tie.Need-same-length
 same-length c = search needs
 
 returns : tie.Need-returns
-returns c = let z = c .before .before .before .before .before .before .before .before .before .before .before .before .before .args in let a = c .before .before .before .before .before .answer .given in let r = c .before .before .before .before .before .before .before .before .read in
-    refused-listed (a .0 .0) (z .values .now) (z .text .now) (file-refused (z .file .now) _ (c .before .before .before .before .before .before .before .before .before .before .before .before .before .pre .0) (omega arith) (r .result) (r .ensures .0) (a .0 .0) (a .1)) (c .before .before .put-refused .ensures)
+returns c =
+    let z = c .before .before .before .before .before .before .before .before .before .before .before .before .before .before .before .before .before .args in
+    let o = c .before .before .before .before .before .before .before .before .before .before .open-run in let a = c .before .before .before .before .before .answer .given in
+    refused-listed (a .0 .0) (z .values .now) (z .text .now)
+    (opened-refused (z .file .now) _ _ _ (o .result) (omega arith) (omega arith) (omega arith) (o .ensures) (a .0 .0) (a .1)) (c .before .before .put-refused .ensures)
 
 same-length-2 : tie.Need-same-length-2
 same-length-2 c = search needs
@@ -55,24 +70,24 @@ same-length-3 : tie.Need-same-length-3
 same-length-3 c = search needs
 
 returns-2 : tie.Need-returns-2
-returns-2 c = let z = c .before .before .before .before .before .before .before .before .before .before .before .before .before .before .before .before .before .args in let a = c .before .before .before .before .before .before .before .before .before .answer2 .given in let r = c .before .before .before .before .before .before .before .before .before .before .before .before .read in
-    let front = file-front (z .file .now) _ (c .before .before .before .before .before .before .before .before .before .before .before .before .before .before .before .before .before .pre .0) (omega arith) (r .result) (r .ensures .0) (a .0 .0) (a .1) (r .ensures .1) in
-    let read = file-read (z .file .now) _ (c .before .before .before .before .before .before .before .before .before .before .before .before .before .before .before .before .before .pre .0) (omega arith) (r .result) (r .ensures .0) (a .0 .0) (a .1) in
-    listed-as (z .values .now) (z .text .now) (read ∙ ap (λ (t : List ℕ). runRecords (recordList t)) (sym front)) (c .before .before .before .before .list-records .ensures)
+returns-2 c = let r = ready (c .before .before .before .before .before .before .before .before .before .before) in
+    rw (r .ran) (c .before .before .before .before .list-opened .ensures)
 
 pub list-file-spec : {M : Type 1} → statement M
 list-file-spec =
     tie.close
     (tie.spec
-    slice-aggregate-read
-    read-requires
+    slice-aggregate-open-run
+    slice-aggregate-open-run-2
+    slice-aggregate-open-run-3
+    open-run-requires
     enum-known-answer
     put-refused-requires
     enum-known-answer-2
-    mul-end
-    array-share-prefix-room
-    slice-aggregate-list-records
-    list-records-requires
+    slice-aggregate-list-opened
+    slice-aggregate-list-opened-2
+    slice-aggregate-list-opened-3
+    list-opened-requires
     same-length
     returns
     same-length-2

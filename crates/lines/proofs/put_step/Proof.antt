@@ -1,19 +1,16 @@
 -- `put_step` meets its contract: the step of the definition, and its line. Assumes nothing.
-use mathlib.Core.Path.{_≡_}
-use lib.ListN.{length}
 use borrow.Author.Needs.{needs}
-use Rattle.intervals.proofs.Loops.{field-length}
-use Rattle.desk.specs.Desks.{lent}
-use Rattle.replay.specs.Replay.{stateOf, perform}
+use Rattle.locks.specs.Lent.{lent}
 use Rattle.lines.proofs.put_step.Statement.{statement}
 use Rattle.lines.proofs.put_step.Tie as tie
-use Rattle.lines.proofs.Runs.{performs-fit, step-none, step-some}
+use Rattle.lines.proofs.Runs.{step-none, step-some}
 
 byte-requires : tie.Need-byte-requires
 byte-requires c κs = search needs
 
 returns : tie.Need-returns
-returns c = let z = c .before .before .before .before .before .before .before .before .args in step-none (lent (z .n) (z .intervals .now) (z .edges .now) (z .count)) (z .progress) (z .bytes .now) (z .values .now) (z .text .now) (c .before .byte .ensures) (c .if1 .taken)
+returns c = let z = c .before .before .before .before .before .before .before .before .args in
+    step-none (lent (z .n) (z .intervals .now) (z .edges .now) (z .edge-count)) (z .progress) (z .bytes .now) (z .values .now) (z .text .now) (c .before .byte .ensures) (c .if1 .taken)
 
 perform-requires : tie.Need-perform-requires
 perform-requires c κs = search needs
@@ -22,12 +19,10 @@ slice-aggregate-put-line : tie.Need-slice-aggregate-put-line
 slice-aggregate-put-line c = search needs
 
 put-line-requires : tie.Need-put-line-requires
-put-line-requires c κs = let z = c .before .before .before .before .before .before .before .before .before .before .before .before .before .before .before .before .args in let s = c .before .before .before .before .before .before .perform in
-    let long : length (s .result .parties) ≡ 32 = search (field-length, needs) in
-    let fit = performs-fit (s .result) (perform (lent (z .n) (z .intervals .now) (z .edges .now) (z .count)) (stateOf (z .progress .desk) (z .values .now)) (z .bytes .now)) (s .ensures) long in (fit .0, fit .1, c .before .before .before .before .before .before .before .before .before .before .before .before .before .before .before .before .pre .0)
+put-line-requires c κs = search needs
 
-add-t23 : tie.Need-add-t23
-add-t23 c = search needs
+after-requires : tie.Need-after-requires
+after-requires c κs = search needs
 
 same-length : tie.Need-same-length
 same-length c = search needs
@@ -36,8 +31,13 @@ same-length-2 : tie.Need-same-length-2
 same-length-2 c = search needs
 
 returns-2 : tie.Need-returns-2
-returns-2 c = let z = c .before .before .before .before .before .before .before .before .before .before .before .before .before .before .before .before .before .before .before .before .args in
-    step-some (lent (z .n) (z .intervals .now) (z .edges .now) (z .count)) (z .progress) (z .bytes .now) (z .values .now) (z .text .now) (c .before .before .before .before .before .before .before .before .before .before .perform .result) (c .before .before .before .before .before .before .before .before .before .before .before .before .before .byte .ensures) (c .before .before .before .before .before .before .before .before .before .before .before .before .if1 .left) (c .before .before .before .before .before .before .before .before .before .before .perform .ensures) (c .before .before .before .put-line .ensures)
+returns-2 c =
+    let z = c .before .before .before .before .before .before .before .before .before .before .before .before .before .before .before .before .before .before .before .before .args in
+    let s = c .before .before .before .before .before .before .before .before .before .before .perform in
+    step-some (lent (z .n) (z .intervals .now) (z .edges .now) (z .edge-count)) (z .progress) (z .bytes .now) (z .values .now) (z .text .now)
+    (c .before .before .before .before .before .before .before .before .before .before .before .before .before .byte .ensures) (s .result)
+    (c .before .before .before .before .before .before .before .before .before .before .before .before .if1 .left) (s .ensures) (c .after .ensures)
+    (c .before .before .before .put-line .ensures)
 
 pub put-step-spec : {M : Type 1} → statement M
 put-step-spec =
@@ -48,7 +48,7 @@ put-step-spec =
     perform-requires
     slice-aggregate-put-line
     put-line-requires
-    add-t23
+    after-requires
     same-length
     same-length-2
     returns-2)

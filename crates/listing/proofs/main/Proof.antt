@@ -1,8 +1,7 @@
--- `main` meets its contract: the listing is in the text's places. Assumes nothing.
-use mathlib.Core.Path.{sym}
-use lib.Seq.{length-take-le}
+-- `main` meets its contract: an opened file is within its rooms. Assumes nothing.
+use native.Mathlib.Omega.{arith}
 use borrow.Author.Needs.{needs}
-use Rattle.lines.proofs.Files.{listing-fits}
+use Rattle.opening.proofs.Opens.{opened-ready}
 use Rattle.listing.proofs.main.Statement.{statement}
 use Rattle.listing.proofs.main.Tie as tie
 
@@ -15,39 +14,72 @@ slice-aggregate-read-full c = search needs
 read-full-requires : tie.Need-read-full-requires
 read-full-requires c κs = search needs
 
-text-room-requires : tie.Need-text-room-requires
-text-room-requires c κs = search needs
+record-room-requires : tie.Need-record-room-requires
+record-room-requires c κs = search needs
+
+edge-room-requires : tie.Need-edge-room-requires
+edge-room-requires c κs = search needs
 
 array-share-prefix-file : tie.Need-array-share-prefix-file
 array-share-prefix-file c = search needs
 
-slice-aggregate-listing : tie.Need-slice-aggregate-listing
-slice-aggregate-listing c = search needs
+slice-aggregate-open-run : tie.Need-slice-aggregate-open-run
+slice-aggregate-open-run c = search needs
 
-slice-aggregate-listing-2 : tie.Need-slice-aggregate-listing-2
-slice-aggregate-listing-2 c = search needs
+slice-aggregate-open-run-2 : tie.Need-slice-aggregate-open-run-2
+slice-aggregate-open-run-2 c = search needs
 
-slice-aggregate-listing-3 : tie.Need-slice-aggregate-listing-3
-slice-aggregate-listing-3 c = search needs
+slice-aggregate-open-run-3 : tie.Need-slice-aggregate-open-run-3
+slice-aggregate-open-run-3 c = search needs
 
-listing-requires : tie.Need-listing-requires
-listing-requires c κs = search needs
+slice-aggregate-open-run-4 : tie.Need-slice-aggregate-open-run-4
+slice-aggregate-open-run-4 c = search needs
+
+open-run-requires : tie.Need-open-run-requires
+open-run-requires c κs = search needs
+
+text-room-requires : tie.Need-text-room-requires
+text-room-requires c κs = search needs
 
 enum-known-answer : tie.Need-enum-known-answer
 enum-known-answer c = search needs
 
-array-share-prefix-text : tie.Need-array-share-prefix-text
-array-share-prefix-text c = let l = c .before .before .before .before .before .listing in listing-fits (l .result) _ _ _ (l .last .1 .1 .0) (c .before .answer .given .0 .0) (l .ensures) (c .before .answer .given .1)
+slice-aggregate-write-refused : tie.Need-slice-aggregate-write-refused
+slice-aggregate-write-refused c = search needs
 
-slice-aggregate-write-all : tie.Need-slice-aggregate-write-all
-slice-aggregate-write-all c =
-    let l = c .before .before .before .before .before .before .listing in sym (length-take-le _ (l .last .1 .1 .0) (listing-fits (l .result) _ _ _ (l .last .1 .1 .0) (c .before .before .answer .given .0 .0) (l .ensures) (c .before .before .answer .given .1)))
-
-write-all-requires : tie.Need-write-all-requires
-write-all-requires c κs = search needs
+write-refused-requires : tie.Need-write-refused-requires
+write-refused-requires c κs = search needs
 
 enum-known-answer-2 : tie.Need-enum-known-answer-2
 enum-known-answer-2 c = search needs
+
+slice-aggregate-write-opened : tie.Need-slice-aggregate-write-opened
+slice-aggregate-write-opened c = search needs
+
+slice-aggregate-write-opened-2 : tie.Need-slice-aggregate-write-opened-2
+slice-aggregate-write-opened-2 c = search needs
+
+slice-aggregate-write-opened-3 : tie.Need-slice-aggregate-write-opened-3
+slice-aggregate-write-opened-3 c = search needs
+
+slice-aggregate-write-opened-4 : tie.Need-slice-aggregate-write-opened-4
+slice-aggregate-write-opened-4 c = search needs
+
+slice-aggregate-write-opened-5 : tie.Need-slice-aggregate-write-opened-5
+slice-aggregate-write-opened-5 c = search needs
+
+write-opened-requires : tie.Need-write-opened-requires
+write-opened-requires c κs = let e = c .before .before .before .before .before .before .before .before .before in let o = e .before .before .before .open-run in let a = c .before .before .before .before .before .before .answer2 .given in let rooms = e .before .before .before .before .before .before .before .before in
+    let ready = opened-ready _ _ _ _ (o .result) (omega (arith, rooms .before .record-room .ensures)) (omega (arith, rooms .edge-room .ensures)) (omega arith)
+    (o .ensures) (a .0 .0) (a .0 .1 .0) (a .0 .1 .1 .0) (a .1) in (
+      (ready .n-most, ready .edges-most, ready .records-most),
+      (
+        omega (arith, e .places2 .given),
+        omega (arith, e .before .edges2 .given, rooms .edge-room .ensures),
+        omega (arith, e .before .before .records2 .given, rooms .before .record-room .ensures),
+        search needs,
+      ),
+    )
 
 returns : tie.Need-returns
 returns c = search needs
@@ -62,16 +94,24 @@ main-spec =
     file-room-requires
     slice-aggregate-read-full
     read-full-requires
-    text-room-requires
+    record-room-requires
+    edge-room-requires
     array-share-prefix-file
-    slice-aggregate-listing
-    slice-aggregate-listing-2
-    slice-aggregate-listing-3
-    listing-requires
+    slice-aggregate-open-run
+    slice-aggregate-open-run-2
+    slice-aggregate-open-run-3
+    slice-aggregate-open-run-4
+    open-run-requires
+    text-room-requires
     enum-known-answer
-    array-share-prefix-text
-    slice-aggregate-write-all
-    write-all-requires
+    slice-aggregate-write-refused
+    write-refused-requires
     enum-known-answer-2
+    slice-aggregate-write-opened
+    slice-aggregate-write-opened-2
+    slice-aggregate-write-opened-3
+    slice-aggregate-write-opened-4
+    slice-aggregate-write-opened-5
+    write-opened-requires
     returns
     returns-2)

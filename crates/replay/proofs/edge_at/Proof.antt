@@ -4,8 +4,7 @@ use Prim.Native.Nat.{ℕ}
 use lib.Dec.{eqb}
 use borrow.Author.Needs.{needs}
 use borrow.Author.Tests.{eq-eqb, ne-eqb}
-use Rattle.intervals.specs.Lists.{one}
-use Rattle.blocks.specs.Bytes.{byte}
+use Rattle.lists.specs.Lists.{one}
 use Rattle.replay.proofs.Records.{record-kind}
 use Rattle.replay.proofs.edge_at.Statement.{statement}
 use Rattle.replay.proofs.edge_at.Tie as tie

@@ -6,8 +6,8 @@ use Prim.Native.Nat.{ℕ, _+_, _-_, _/_, _≤_}
 use native.Mathlib.Omega.{arith}
 use lib.Dec.{eqb}
 use lib.ListN.{length, drop}
-use Rattle.intervals.specs.Lists.{count}
-use Rattle.intervals.proofs.Loops.{count-end}
+use Rattle.lists.specs.Lists.{count}
+use Rattle.lists.proofs.Loops.{count-end}
 use Rattle.blocks.specs.Record.{kindOf}
 use Rattle.replay.specs.Replay.{recordList, edgeCountOf}
 use Rattle.replay.specs.Inner.{recordAt}

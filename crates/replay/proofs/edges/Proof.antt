@@ -1,14 +1,12 @@
 -- `edges` meets its contract: counted first, and written where they fit. Assumes nothing.
 use mathlib.Core.Path.{_≡_, sym, ap, _∙_}
 use mathlib.Core.List.{List}
-use mathlib.Core.Bool.{true, false}
 use Prim.Native.Nat.{ℕ, _/_}
-use native.Mathlib.Omega.{arith}
 use lib.Dec.{ltb}
 use lib.ListN.{length}
 use borrow.Author.Needs.{needs}
 use borrow.Author.Tests.{lt-ltb, le-ltb}
-use Rattle.intervals.specs.Answer.{done}
+use Rattle.lists.specs.Answer.{done}
 use Rattle.replay.specs.Replay.{recordList, edgeCountOf}
 use Rattle.replay.proofs.Records.{edges-short, edges-done}
 use Rattle.replay.proofs.edges.Statement.{statement}

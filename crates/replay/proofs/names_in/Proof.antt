@@ -4,7 +4,6 @@ use Prim.Native.Nat.{ℕ, _-_, _≤_, _<_, min}
 use native.Mathlib.Omega.{arith}
 use lib.ListN.{length}
 use borrow.Author.Needs.{needs}
-use Rattle.blocks.specs.Bytes.{byte}
 use Rattle.blocks.specs.Record.{nameCountIn}
 use Rattle.replay.proofs.Records.{names-length}
 use Rattle.replay.proofs.names_in.Statement.{statement}
@@ -23,12 +22,18 @@ returns : tie.Need-returns
 returns c = let z = c .before .before .before .before .args in (sym (names-length (z .bytes .now) ∙ few (nameCountIn (z .bytes .now)) (length (z .bytes .now)) (c .if1 .taken)), omega arith)
 
 returns-2 : tie.Need-returns-2
-returns-2 c = let w = c .before .before in let z = w .before .before .before .args in
-    (sym (names-length (z .bytes .now) ∙ ap (λ (k : ℕ). min k (length (z .bytes .now) - 4)) (sym (w .wide .ensures .0 ∙ w .before .byte .ensures)) ∙ right (w .wide .result) _ (c .if2 .taken)), omega (arith, w .wide .ensures .1, c .if2 .taken))
+returns-2 c =
+    let w = c .before .before in
+    let z = w .before .before .before .args in
+    let read = ap (λ (k : ℕ). min k (length (z .bytes .now) - 4)) (sym (w .wide .ensures .0 ∙ w .before .byte .ensures)) in
+    (sym (names-length (z .bytes .now) ∙ read ∙ right (w .wide .result) _ (c .if2 .taken)), omega (arith, w .wide .ensures .1, c .if2 .taken))
 
 returns-3 : tie.Need-returns-3
-returns-3 c = let w = c .before .before in let z = w .before .before .before .args in
-    (sym (names-length (z .bytes .now) ∙ ap (λ (k : ℕ). min k (length (z .bytes .now) - 4)) (sym (w .wide .ensures .0 ∙ w .before .byte .ensures)) ∙ left (w .wide .result) _ (c .if2 .left)), w .wide .ensures .1)
+returns-3 c =
+    let w = c .before .before in
+    let z = w .before .before .before .args in
+    let read = ap (λ (k : ℕ). min k (length (z .bytes .now) - 4)) (sym (w .wide .ensures .0 ∙ w .before .byte .ensures)) in
+    (sym (names-length (z .bytes .now) ∙ read ∙ left (w .wide .result) _ (c .if2 .left)), w .wide .ensures .1)
 
 pub names-in-spec : {M : Type 1} → statement M
 names-in-spec =

@@ -6,11 +6,10 @@ use native.Mathlib.Omega.{arith}
 use lib.ListN.{length, take, drop, length-append}
 use lib.Seq.{length-take-le, take-append-seam}
 use borrow.Author.Needs.{needs}
-use Rattle.intervals.specs.Lists.{count, over}
-use Rattle.blocks.specs.Bytes.{byte}
+use Rattle.lists.specs.Lists.{over}
 use Rattle.blocks.specs.Record.{namesIn}
-use Rattle.desk.specs.Desks.{lent}
-use Rattle.desk.specs.Locks.{modeNumbered}
+use Rattle.locks.specs.Lent.{lent}
+use Rattle.locks.specs.Locks.{modeNumbered}
 use Rattle.replay.proofs.Outcomes.{entered-performs}
 use Rattle.replay.proofs.perform_enter.Statement.{statement}
 use Rattle.replay.proofs.perform_enter.Tie as tie
@@ -33,11 +32,19 @@ slice-aggregate-enter c = let p = c .before .before in let b = p .before .before
     sym (length-take-le _ (p .put-names .last .1 .0) (fits (namesIn b) (p .put-names .last .1 .0) _ (p .put-names .ensures .0) (p .put-names .ensures .1)))
 
 returns : tie.Need-returns
-returns c = let e = c .before .before in let p = e .before .before .before in let m = p .before .before .before in let z = p .before .before .before .before .before .before .before .before .before .args in let h = lent (z .n) (z .intervals .now) (z .edges .now) (z .count) in
-    let names : take (p .put-names .result) (p .put-names .last .1 .0) ≡ namesIn (z .bytes .now)
-    = ap (λ (k : ℕ). take k (p .put-names .last .1 .0)) (p .put-names .ensures .0) ∙ ap (take (length (namesIn (z .bytes .now)))) (p .put-names .ensures .1) ∙ take-over (namesIn (z .bytes .now)) _ in
-    entered-performs h (z .desk) (z .bytes .now) (m .before .before .byte .result) (m .before .before .byte .ensures) (m .mode-numbered .result) (take (p .put-names .result) (p .put-names .last .1 .0)) (p .before .before .byte3 .result)
-    (m .mode-numbered .ensures ∙ ap modeNumbered (m .before .byte2 .ensures)) names (p .before .before .byte3 .ensures) (e .enter .result) (c .before .entered .result) (e .enter .ensures) (c .before .entered .ensures)
+returns c =
+    let e = c .before .before in
+    let p = e .before .before .before in
+    let m = p .before .before .before in
+    let z = p .before .before .before .before .before .before .before .before .before .args in
+    let bytes : List ℕ = z .bytes .now in
+    let put : List ℕ = p .put-names .last .1 .0 in
+    let names : take (p .put-names .result) put ≡ namesIn bytes
+    = ap (λ (k : ℕ). take k put) (p .put-names .ensures .0) ∙ ap (take (length (namesIn bytes))) (p .put-names .ensures .1) ∙ take-over (namesIn bytes) _ in
+    entered-performs (lent (z .n) (z .intervals .now) (z .edges .now) (z .edge-count)) (z .desk) bytes (m .before .before .byte .result) (m .before .before .byte .ensures)
+    (m .mode-numbered .result) (take (p .put-names .result) put) (p .before .before .byte3 .result)
+    (m .mode-numbered .ensures ∙ ap modeNumbered (m .before .byte2 .ensures)) names (p .before .before .byte3 .ensures)
+    (e .enter .result) (c .before .entered .result) (e .enter .ensures) (c .before .entered .ensures)
 
 pub perform-enter-spec : {M : Type 1} → statement M
 perform-enter-spec =

@@ -1,9 +1,7 @@
 -- `perform_get` meets its contract: the bytes read are the record's fields; a value is taken out, and waiting and refusal are handled apart. Assumes nothing.
 use mathlib.Core.Path.{sym, ap}
 use borrow.Author.Needs.{needs}
-use Rattle.intervals.specs.Lists.{count}
-use Rattle.blocks.specs.Bytes.{byte}
-use Rattle.desk.specs.Desks.{lent}
+use Rattle.locks.specs.Lent.{lent}
 use Rattle.desk.specs.declared.GetAnswer.{GetAnswer}
 use Rattle.desk.specs.Answers.{getMeaning}
 use Rattle.replay.specs.declared.Outcome.the-variants.{Value}
@@ -14,14 +12,19 @@ use Rattle.replay.proofs.perform_get.Statement.{statement}
 use Rattle.replay.proofs.perform_get.Tie as tie
 
 returns : tie.Need-returns
-returns c = let g = c .before .before .before in let z = g .before .before .before .before .before .before .before .args in let h = lent (z .n) (z .intervals .now) (z .edges .now) (z .count) in
-    got-performs h (z .desk) (z .bytes .now) (g .before .before .byte .result) (g .before .before .byte .ensures) (g .before .byte2 .result) (g .before .byte2 .ensures) (z .values .now) (g .get .result)
-    (c .not-got .result) (g .get .ensures) (c .not-got .ensures)
+returns c =
+    let g = c .before .before .before in
+    let z = g .before .before .before .before .before .before .before .args in
+    got-performs (lent (z .n) (z .intervals .now) (z .edges .now) (z .edge-count)) (z .desk) (z .bytes .now) (g .before .before .byte .result) (g .before .before .byte .ensures)
+    (g .before .byte2 .result) (g .before .byte2 .ensures) (z .values .now) (g .get .result) (c .not-got .result) (g .get .ensures) (c .not-got .ensures)
 
 returns-2 : tie.Need-returns-2
-returns-2 c = let g = c .before .before .before .before in let z = g .before .before .before .before .before .before .before .args in let h = lent (z .n) (z .intervals .now) (z .edges .now) (z .count) in
-    got-performs h (z .desk) (z .bytes .now) (g .before .before .byte .result) (g .before .before .byte .ensures) (g .before .byte2 .result) (g .before .byte2 .ensures) (z .values .now) (g .get .result)
-    (Value (c .before .answer .given .0 .0)) (g .get .ensures) (sym (ap (λ (a : GetAnswer). outcomeOf (getLine (getMeaning a))) (c .before .answer .given .1)))
+returns-2 c =
+    let g = c .before .before .before .before in
+    let z = g .before .before .before .before .before .before .before .args in
+    got-performs (lent (z .n) (z .intervals .now) (z .edges .now) (z .edge-count)) (z .desk) (z .bytes .now) (g .before .before .byte .result) (g .before .before .byte .ensures)
+    (g .before .byte2 .result) (g .before .byte2 .ensures) (z .values .now) (g .get .result) (Value (c .before .answer .given .0 .0)) (g .get .ensures)
+    (sym (ap (λ (a : GetAnswer). outcomeOf (getLine (getMeaning a))) (c .before .answer .given .1)))
 
 pub perform-get-spec : {M : Type 1} → statement M
 perform-get-spec =

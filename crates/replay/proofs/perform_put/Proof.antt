@@ -1,17 +1,20 @@
 -- `perform_put` meets its contract: the bytes read are the record's fields, and the desk's step does the rest. Assumes nothing.
 use borrow.Author.Needs.{needs}
-use Rattle.intervals.specs.Lists.{count}
-use Rattle.blocks.specs.Bytes.{byte}
-use Rattle.desk.specs.Desks.{lent}
+use Rattle.locks.specs.Lent.{lent}
 use Rattle.replay.proofs.Outcomes.{stored-performs}
 use Rattle.replay.proofs.perform_put.Statement.{statement}
 use Rattle.replay.proofs.perform_put.Tie as tie
 
 returns : tie.Need-returns
-returns c = let p = c .before .before .before .before in let z = p .before .before .before .before .before .before .before .before .before .args in let h = lent (z .n) (z .intervals .now) (z .edges .now) (z .count) in
+returns c =
+    let p = c .before .before .before .before in
     let b = p .before .before .before .before in
-    stored-performs h (z .desk) (z .bytes .now) (b .byte .result) (b .byte .ensures) (p .before .before .before .byte2 .result) (p .before .before .number8 .result) (p .before .before .before .byte2 .ensures)
-    (p .before .before .number8 .ensures) (z .values .now) (p .put .last .1 .1 .1 .1 .1 .1 .1 .1 .0) (p .put .result) (c .before .stored .result) (p .put .ensures) (c .before .stored .ensures)
+    let node = p .before .before .before .byte2 in
+    let value = p .before .before .number8 in
+    let z = p .before .before .before .before .before .before .before .before .before .args in
+    stored-performs (lent (z .n) (z .intervals .now) (z .edges .now) (z .edge-count)) (z .desk) (z .bytes .now) (b .byte .result) (b .byte .ensures)
+    (node .result) (value .result) (node .ensures) (value .ensures) (z .values .now) (p .put .last .1 .1 .1 .1 .1 .1 .1 .1 .0)
+    (p .put .result) (c .before .stored .result) (p .put .ensures) (c .before .stored .ensures)
 
 pub perform-put-spec : {M : Type 1} → statement M
 perform-put-spec =

@@ -2,24 +2,23 @@
 use mathlib.Core.Path.{_≡_, sym, ap, _∙_}
 use mathlib.Core.Logic.{_≢_}
 use mathlib.Core.List.{List, [], _∷_}
-use mathlib.Core.Bool.{true, false}
-use Prim.Native.Nat.{ℕ, _+_, _*_, _≤_}
+use Prim.Native.Nat.{ℕ, _+_, _*_}
 use native.Mathlib.Nat.{add-zero}
 use native.Mathlib.Omega.{arith}
 use lib.Dec.{eqb}
 use lib.ListN.{length, set, length-set}
 use borrow.Author.Needs.{needs}
 use borrow.Author.Tests.{eq-eqb, ne-eqb}
-use Rattle.blocks.specs.Record.{kindOf, parentIn, childIn}
-use Rattle.blocks.specs.Inner.{overAt}
-use Rattle.blocks.proofs.Writes.{over-none}
+use Rattle.blocks.specs.Record.{parentIn, childIn}
+use Rattle.octets.specs.Writes.{overAt}
+use Rattle.octets.proofs.Writes.{over-none}
 use Rattle.replay.specs.Inner.{recordAt, edgeOf}
 use Rattle.replay.proofs.Records.{record-byte, record-kind, edge-none, edge-some, stores-pair}
 use Rattle.replay.proofs.put_edge.Statement.{statement}
 use Rattle.replay.proofs.put_edge.Tie as tie
 
 -- the kind that was read is the record's
-module _ (bytes : List ℕ) (i at k : ℕ) (table : List ℕ) (read : k ≡ Rattle.blocks.specs.Bytes.byte (16 * i) bytes) where
+module _ (bytes : List ℕ) (i at k : ℕ) (table : List ℕ) (read : k ≡ Rattle.octets.specs.Bytes.byte (16 * i) bytes) where
   abbrev r : List ℕ
   r = recordAt bytes i
 
@@ -47,14 +46,18 @@ slice-write-table-2 c = let s = c .before .before .before in let z = s .before .
     simp length-set (omega (arith, s .before .before .before .pre .1, edge-length (z .records .now) (z .i) (z .at) (s .byte .result) (z .table .now) (s .byte .ensures) (c .before .before .if1 .left)))
 
 returns-2 : tie.Need-returns-2
-returns-2 c = let s = c .before .before .before in let z = s .before .before .before .args in
-    let e = edge-is (z .records .now) (z .i) (z .at) (s .byte .result) (z .table .now) (s .byte .ensures) (c .before .before .if1 .left) in
-    let two : length (edgeOf (recordAt (z .records .now) (z .i))) ≡ 2 = ap length e in (
+returns-2 c =
+    let s = c .before .before .before in
+    let z = s .before .before .before .args in
+    let r : List ℕ = recordAt (z .records .now) (z .i) in
+    let table : List ℕ = z .table .now in
+    let e = edge-is (z .records .now) (z .i) (z .at) (s .byte .result) table (s .byte .ensures) (c .before .before .if1 .left) in
+    let two : length (edgeOf r) ≡ 2 = ap length e in (
       sym (ap (λ (k : ℕ). z .at + k) two),
-      ap (λ (x : ℕ). set (set (z .table .now) (z .at) x) (z .at + 1) (c .byte3 .result)) (c .before .byte2 .ensures ∙ sym (record-byte (z .records .now) (z .i) 1 (omega arith)))
-          ∙ ap (λ (x : ℕ). set (set (z .table .now) (z .at) (parentIn (recordAt (z .records .now) (z .i)))) (z .at + 1) x) (c .byte3 .ensures ∙ sym (record-byte (z .records .now) (z .i) 2 (omega arith)))
-          ∙ stores-pair (z .table .now) (z .at) _ _ (omega (arith, two, s .before .before .before .pre .1))
-          ∙ ap (λ (t : List ℕ). overAt (z .at) t (z .table .now)) (sym e),
+      ap (λ (x : ℕ). set (set table (z .at) x) (z .at + 1) (c .byte3 .result)) (c .before .byte2 .ensures ∙ sym (record-byte (z .records .now) (z .i) 1 (omega arith)))
+          ∙ ap (λ (x : ℕ). set (set table (z .at) (parentIn r)) (z .at + 1) x) (c .byte3 .ensures ∙ sym (record-byte (z .records .now) (z .i) 2 (omega arith)))
+          ∙ stores-pair table (z .at) _ _ (omega (arith, two, s .before .before .before .pre .1))
+          ∙ ap (λ (t : List ℕ). overAt (z .at) t table) (sym e),
     )
 
 pub put-edge-spec : {M : Type 1} → statement M

@@ -1,12 +1,12 @@
 -- `put_edges` meets its contract: the edges left, written over the table as it is now, give the table with all of them. Assumes nothing.
-use mathlib.Core.Path.{_≡_, refl, sym, ap, _∙_}
+use mathlib.Core.Path.{_≡_, refl, ap, _∙_}
 use mathlib.Core.List.{List, []}
 use Prim.Native.Nat.{ℕ, _+_, _-_, _/_, _≤_, _<_}
 use native.Mathlib.Omega.{arith}
 use lib.ListN.{length, drop}
-use Rattle.intervals.specs.Lists.{over}
-use Rattle.blocks.specs.Inner.{overAt}
-use Rattle.blocks.proofs.Writes.{over-first, length-over}
+use Rattle.lists.specs.Lists.{over}
+use Rattle.octets.specs.Writes.{overAt}
+use Rattle.octets.proofs.Writes.{over-first, length-over}
 use Rattle.replay.specs.Replay.{recordList, edgeTable}
 use Rattle.replay.specs.Inner.{recordAt, edgeOf}
 use Rattle.replay.proofs.Records.{records-length, records-at, edge-table-length, table-length-step, table-turn, table-end}

@@ -1,15 +1,14 @@
 -- `put_names` meets its contract: the names left, written over the places as they are now, give the places with all of them. Assumes nothing.
-use mathlib.Core.Path.{_≡_, refl, sym, ap, _∙_}
-use mathlib.Core.List.{List}
-use Prim.Native.Nat.{ℕ, _+_, _-_, _≤_, _<_}
+use mathlib.Core.Path.{_≡_, refl, ap, _∙_}
+use Prim.Native.Nat.{ℕ, _+_, _-_, _≤_}
 use native.Mathlib.Nat.{zero-add}
 use native.Mathlib.Omega.{arith}
 use lib.ListN.{length, set, drop, length-set}
 use borrow.Author.Needs.{needs}
-use Rattle.intervals.specs.Lists.{over}
+use Rattle.lists.specs.Lists.{over}
 use Rattle.blocks.specs.Record.{namesIn}
-use Rattle.blocks.specs.Inner.{overAt}
-use Rattle.blocks.proofs.Writes.{over-first, over-end}
+use Rattle.octets.specs.Writes.{overAt}
+use Rattle.octets.proofs.Writes.{over-first, over-end}
 use Rattle.replay.proofs.Records.{names-turn}
 use Rattle.replay.proofs.put_names.Statement.{statement}
 use Rattle.replay.proofs.put_names.Tie as tie

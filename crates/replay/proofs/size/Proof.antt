@@ -1,7 +1,6 @@
 -- `size` meets its contract: n stands in the first record. Assumes nothing.
 use mathlib.Core.Path.{sym, _∙_}
 use borrow.Author.Needs.{needs}
-use Rattle.blocks.specs.Bytes.{number2}
 use Rattle.replay.proofs.Records.{size-some, size-none}
 use Rattle.replay.proofs.size.Statement.{statement}
 use Rattle.replay.proofs.size.Tie as tie

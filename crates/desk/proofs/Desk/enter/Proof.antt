@@ -1,62 +1,104 @@
 -- `Desk::enter` meets its contract: the checks in rising order, then the lock on the cover. Assumes nothing.
-use mathlib.Core.Path.{sym, ap, _∙_}
+use mathlib.Core.Path.{_≡_, sym, ap, _∙_}
 use mathlib.Core.Bool.{Bool, not}
-use mathlib.Core.List.{[], _∷_}
-use lib.Dec.{ltb}
+use mathlib.Core.List.{List}
+use mathlib.Core.Option.{none}
 use native.Mathlib.Omega.{arith}
+use lib.Dec.{ltb}
 use lib.ListN.{length, take}
 use lib.Seq.{length-take-le}
 use borrow.Author.Needs.{needs}
 use borrow.Author.Tests.{ltb-false}
-use Rattle.intervals.specs.Lists.{count}
-use Rattle.intervals.specs.Answer.{_when_}
-use Rattle.intervals.proofs.Refusals.{refused-here, refused-later}
-use Rattle.desk.specs.Desks.{lent, stageAt, isOut}
-use Rattle.desk.specs.Steps.{namesWrong}
-use Rattle.desk.proofs.Judging.{judged-own, judged-some, refusal-nil, not-short, few-waiting, cover-fits, party-below}
+use Rattle.lists.specs.Answer.{Check, refusal}
+use Rattle.lists.proofs.Refusals.{refused-here, refused-later}
+use Rattle.locks.specs.Stages.{isOut}
+use Rattle.locks.specs.Lent.{Hierarchy, lent}
+use Rattle.desk.specs.Desks.{stageAt}
+use Rattle.desk.specs.Steps.{StepFacts, enterOwn, enterRefusal}
+use Rattle.desk.proofs.Judging.{judged-own, judged-some, judged-facts, refusal-nil, few-waiting, cover-fits}
 use Rattle.desk.proofs.Answering.{enter-refused, enter-granted, enter-waits}
 use Rattle.desk.proofs.Desk.enter.Statement.{statement}
 use Rattle.desk.proofs.Desk.enter.Tie as tie
 
+abbrev lentTo : tie.Start → Hierarchy
+lentTo s = lent (s .args .n) (s .args .intervals .now) (s .args .edges .now) (s .args .edge-count)
+
+-- the names may be too short
+abbrev short : tie.Start → Bool
+short s = ltb (length (s .args .names .now)) (s .args .name-count)
+
+-- what enter alone looks at
+abbrev own : tie.Start → List Check
+own s = enterOwn (lentTo s) (s .args .self) (s .args .party) (s .args .names .now) (s .args .name-count)
+
+-- what a step that was not refused before its own checks knows
+facts : (c : tie.Else1) → StepFacts (lentTo (c .before .before .before .before .before)) (c .before .before .before .before .before .args .self)
+    (c .before .before .before .before .before .args .party) (short (c .before .before .before .before .before))
+facts c = let s = c .before .before .before .before .before in
+    judged-facts (lentTo s) (s .args .self) (s .args .party) (short s) (c .before .judge .result) (c .if1 .left) (c .before .judge .ensures .1)
+
+-- so its own checks decide
+abbrev Refusal : tie.Start → List Check → Type 0
+Refusal s checks = enterRefusal (lentTo s) (s .args .self) (s .args .party) (s .args .names .now) (s .args .name-count) ≡ refusal checks
+
+passed : (c : tie.Else1) → Refusal (c .before .before .before .before .before) (own (c .before .before .before .before .before))
+passed c = let s = c .before .before .before .before .before in
+    judged-own (lentTo s) (s .args .self) (s .args .party) (short s) (c .before .judge .result) (c .if1 .left) (c .before .judge .ensures .1) (own s)
+
+-- who was found is the party
+found : (c : tie.After-is-out)
+    → not (isOut (stageAt (c .before .before .before .before .before .before .before .before .args .self) (c .before .before .before .before .before .before .before .before .args .party)))
+    ≡ not (c .is-out .result)
+found c = ap not (ap isOut (sym (c .before .stage .ensures)) ∙ sym (c .is-out .ensures))
+
+-- no check refuses
+none-left : (c : tie.Else3) → enterRefusal (lentTo (c .before .before .before .before .before .before .before .before .before .before .before))
+    (c .before .before .before .before .before .before .before .before .before .before .before .args .self)
+    (c .before .before .before .before .before .before .before .before .before .before .before .args .party)
+    (c .before .before .before .before .before .before .before .before .before .before .before .args .names .now)
+    (c .before .before .before .before .before .before .before .before .before .before .before .args .name-count) ≡ none
+none-left c = let t = c .before .before in
+    passed (t .before .before .before .before) ∙ refused-later _ _ (found (t .before) ∙ t .if2 .left)
+    ∙ refused-later _ _ (sym (c .before .names-wrong .ensures) ∙ c .if3 .left) ∙ refusal-nil
+
 returns : tie.Need-returns
-returns c = let z = c .before .before .before .before .before .args in let h = lent (z .n) (z .intervals .now) (z .edges .now) (z .count) in
-    enter-refused h (z .self) (z .party) (z .mode) (z .names .now) (z .named) _ (judged-some h (z .self) (z .party) (ltb (length (z .names .now)) (z .named)) _ (c .if1 .taken) (c .before .judge .ensures .1) (12 when not (isOut (stageAt (z .self) (z .party))) ∷ 15 when namesWrong (z .n) (z .names .now) (z .named) ∷ []))
+returns c = let s = c .before .before .before .before .before in
+    enter-refused (lentTo s) (s .args .self) (s .args .party) (s .args .mode) (s .args .names .now) (s .args .name-count) (c .before .judge .result)
+    (judged-some (lentTo s) (s .args .self) (s .args .party) (short s) (c .before .judge .result) (c .if1 .taken) (c .before .judge .ensures .1) (own s))
 
 returns-2 : tie.Need-returns-2
-returns-2 c = let z = c .before .before .before .before .before .before .before .before .args in let h = lent (z .n) (z .intervals .now) (z .edges .now) (z .count) in
-    enter-refused h (z .self) (z .party) (z .mode) (z .names .now) (z .named) 12 (judged-own h (z .self) (z .party) (ltb (length (z .names .now)) (z .named)) _ (c .before .before .before .if1 .left) (c .before .before .before .before .judge .ensures .1) (12 when not (isOut (stageAt (z .self) (z .party))) ∷ 15 when namesWrong (z .n) (z .names .now) (z .named) ∷ []) ∙ refused-here _ _ (ap (λ (x : Bool). not x) (ap isOut (sym (c .before .before .stage .ensures)) ∙ sym (c .before .is-out .ensures)) ∙ c .if2 .taken))
-
-names-wrong-requires : tie.Need-names-wrong-requires
-names-wrong-requires c κs = let z = c .before .before .before .before .before .before .before .before .args in let h = lent (z .n) (z .intervals .now) (z .edges .now) (z .count) in
-    ltb-false _ _ (not-short h (z .self) (z .party) (ltb (length (z .names .now)) (z .named)) _ (c .before .before .before .if1 .left) (c .before .before .before .before .judge .ensures .1))
+returns-2 c = let t = c .before .before .before .before in let s = t .before .before .before .before .before in
+    enter-refused (lentTo s) (s .args .self) (s .args .party) (s .args .mode) (s .args .names .now) (s .args .name-count) 12 (passed t ∙ refused-here _ _ (found (c .before) ∙ c .if2 .taken))
 
 returns-3 : tie.Need-returns-3
-returns-3 c = let z = c .before .before .before .before .before .before .before .before .before .before .args in let h = lent (z .n) (z .intervals .now) (z .edges .now) (z .count) in
-    enter-refused h (z .self) (z .party) (z .mode) (z .names .now) (z .named) 15 (judged-own h (z .self) (z .party) (ltb (length (z .names .now)) (z .named)) _ (c .before .before .before .before .before .if1 .left) (c .before .before .before .before .before .before .judge .ensures .1) (12 when not (isOut (stageAt (z .self) (z .party))) ∷ 15 when namesWrong (z .n) (z .names .now) (z .named) ∷ []) ∙ refused-later _ _ (ap (λ (x : Bool). not x) (ap isOut (sym (c .before .before .before .before .stage .ensures)) ∙ sym (c .before .before .before .is-out .ensures)) ∙ c .before .before .if2 .left) ∙ refused-here _ _ (sym (c .before .names-wrong .ensures) ∙ c .if3 .taken))
+returns-3 c = let k = c .before .before in let t = k .before .before .before .before in let s = t .before .before .before .before .before in
+    enter-refused (lentTo s) (s .args .self) (s .args .party) (s .args .mode) (s .args .names .now) (s .args .name-count) 15
+    (passed t ∙ refused-later _ _ (found (k .before) ∙ k .if2 .left) ∙ refused-here _ _ (sym (c .before .names-wrong .ensures) ∙ c .if3 .taken))
 
 slice-aggregate-cover : tie.Need-slice-aggregate-cover
-slice-aggregate-cover c = let z = c .before .before .before .before .before .before .before .before .before .before .before .args in let h = lent (z .n) (z .intervals .now) (z .edges .now) (z .count) in
-    sym (length-take-le (z .named) (z .names .now) (ltb-false _ _ (not-short h (z .self) (z .party) (ltb (length (z .names .now)) (z .named)) _ (c .before .before .before .before .before .before .if1 .left) (c .before .before .before .before .before .before .before .judge .ensures .1))))
+slice-aggregate-cover c = let t = c .before .before .before .before .before .before .before in let s = t .before .before .before .before .before in
+    sym (length-take-le (s .args .name-count) (s .args .names .now) (ltb-false _ _ (facts t .own-lent)))
 
 cast-lock-on : tie.Need-cast-lock-on
-cast-lock-on c = let z = c .before .before .before .before .before .before .before .before .before .before .before .before .args in let h = lent (z .n) (z .intervals .now) (z .edges .now) (z .count) in
-    omega (arith, c .cover .ensures, cover-fits h (z .self) (z .party) (ltb (length (z .names .now)) (z .named)) _ (c .before .before .before .before .before .before .before .if1 .left) (c .before .before .before .before .before .before .before .before .judge .ensures .1) (take (z .named) (z .names .now)))
+cast-lock-on c = let t = c .before .before .before .before .before .before .before .before in let s = t .before .before .before .before .before in
+    omega (arith, c .cover .ensures, cover-fits (lentTo s) (s .args .self) (s .args .party) (short s) (facts t) (take (s .args .name-count) (s .args .names .now)))
 
 granted-requires : tie.Need-granted-requires
-granted-requires c κs = let z = c .before .before .before .before .before .before .before .before .before .before .before .before .before .before .before .args in let h = lent (z .n) (z .intervals .now) (z .edges .now) (z .count) in
-    few-waiting h (z .self) (z .party) (ltb (length (z .names .now)) (z .named)) _ (c .before .before .before .before .before .before .before .before .before .before .if1 .left) (c .before .before .before .before .before .before .before .before .before .before .before .judge .ensures .1)
+granted-requires c κs = facts (c .before .before .before .before .before .before .before .before .before .before .before) .party-below
 
 returns-4 : tie.Need-returns-4
-returns-4 c = let z = c .before .before .before .before .before .before .before .before .before .before .before .before .before .before .before .before .args in let h = lent (z .n) (z .intervals .now) (z .edges .now) (z .count) in
-    enter-granted h (z .self) (z .party) (z .mode) (z .names .now) (z .named) _ _ _ (judged-own h (z .self) (z .party) (ltb (length (z .names .now)) (z .named)) _ (c .before .before .before .before .before .before .before .before .before .before .before .if1 .left) (c .before .before .before .before .before .before .before .before .before .before .before .before .judge .ensures .1) (12 when not (isOut (stageAt (z .self) (z .party))) ∷ 15 when namesWrong (z .n) (z .names .now) (z .named) ∷ []) ∙ refused-later _ _ (ap (λ (x : Bool). not x) (ap isOut (sym (c .before .before .before .before .before .before .before .before .before .before .stage .ensures)) ∙ sym (c .before .before .before .before .before .before .before .before .before .is-out .ensures)) ∙ c .before .before .before .before .before .before .before .before .if2 .left) ∙ refused-later _ _ (sym (c .before .before .before .before .before .before .before .names-wrong .ensures) ∙ c .before .before .before .before .before .before .if3 .left) ∙ refusal-nil) (c .before .before .before .before .cover .ensures) (c .before .before .before .lock-on .ensures) (sym (c .before .before .is-free .ensures) ∙ c .before .if4 .taken) (c .granted .ensures)
+returns-4 c = let l = c .before .before .before in let t = l .before .before .before in let s = t .before .before .before .before .before .before .before .before .before .before .before in
+    enter-granted (lentTo s) (s .args .self) (s .args .party) (s .args .mode) (s .args .names .now) (s .args .name-count) _ _ _ (none-left t)
+    (l .before .cover .ensures) (l .lock-on .ensures) (sym (c .before .before .is-free .ensures) ∙ c .before .if4 .taken) (c .granted .ensures)
 
 queued-requires : tie.Need-queued-requires
-queued-requires c κs = let z = c .before .before .before .before .before .before .before .before .before .before .before .before .before .before .before .args in let h = lent (z .n) (z .intervals .now) (z .edges .now) (z .count) in
-    (few-waiting h (z .self) (z .party) (ltb (length (z .names .now)) (z .named)) _ (c .before .before .before .before .before .before .before .before .before .before .if1 .left) (c .before .before .before .before .before .before .before .before .before .before .before .judge .ensures .1), party-below h (z .self) (z .party) (ltb (length (z .names .now)) (z .named)) _ (c .before .before .before .before .before .before .before .before .before .before .if1 .left) (c .before .before .before .before .before .before .before .before .before .before .before .judge .ensures .1))
+queued-requires c κs = let t = c .before .before .before .before .before .before .before .before .before .before .before in let s = t .before .before .before .before .before in
+    (few-waiting (lentTo s) (s .args .self) (s .args .party) (short s) (facts t), facts t .party-below)
 
 returns-5 : tie.Need-returns-5
-returns-5 c = let z = c .before .before .before .before .before .before .before .before .before .before .before .before .before .before .before .before .args in let h = lent (z .n) (z .intervals .now) (z .edges .now) (z .count) in
-    enter-waits h (z .self) (z .party) (z .mode) (z .names .now) (z .named) _ _ _ (judged-own h (z .self) (z .party) (ltb (length (z .names .now)) (z .named)) _ (c .before .before .before .before .before .before .before .before .before .before .before .if1 .left) (c .before .before .before .before .before .before .before .before .before .before .before .before .judge .ensures .1) (12 when not (isOut (stageAt (z .self) (z .party))) ∷ 15 when namesWrong (z .n) (z .names .now) (z .named) ∷ []) ∙ refused-later _ _ (ap (λ (x : Bool). not x) (ap isOut (sym (c .before .before .before .before .before .before .before .before .before .before .stage .ensures)) ∙ sym (c .before .before .before .before .before .before .before .before .before .is-out .ensures)) ∙ c .before .before .before .before .before .before .before .before .if2 .left) ∙ refused-later _ _ (sym (c .before .before .before .before .before .before .before .names-wrong .ensures) ∙ c .before .before .before .before .before .before .if3 .left) ∙ refusal-nil) (c .before .before .before .before .cover .ensures) (c .before .before .before .lock-on .ensures) (sym (c .before .before .is-free .ensures) ∙ c .before .if4 .left) (c .queued .ensures)
+returns-5 c = let l = c .before .before .before in let t = l .before .before .before in let s = t .before .before .before .before .before .before .before .before .before .before .before in
+    enter-waits (lentTo s) (s .args .self) (s .args .party) (s .args .mode) (s .args .names .now) (s .args .name-count) _ _ _ (none-left t)
+    (l .before .cover .ensures) (l .lock-on .ensures) (sym (c .before .before .is-free .ensures) ∙ c .before .if4 .left) (c .queued .ensures)
 
 pub enter-spec : {M : Type 1} → statement M
 enter-spec =
@@ -67,7 +109,7 @@ enter-spec =
     (λ c κs. search needs)
     (λ c κs. search needs)
     returns-2
-    names-wrong-requires
+    (λ c κs. search needs)
     returns-3
     slice-aggregate-cover
     (λ c κs. search needs)

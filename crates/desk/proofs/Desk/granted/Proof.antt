@@ -5,7 +5,7 @@ use Rattle.desk.proofs.Desk.granted.Statement.{statement}
 use Rattle.desk.proofs.Desk.granted.Tie as tie
 
 returns : tie.Need-returns
-returns c = rw (c .before .with-stage .ensures, c .before .before .count-grants .ensures, c .before .before .before .tidy-queue .ensures) refl
+returns c = rw (c .count-grants .ensures, c .before .tidy .ensures) refl
 
 pub granted-spec : {M : Type 1} → statement M
 granted-spec =
@@ -13,5 +13,6 @@ granted-spec =
     (tie.spec
     (λ c κs. search needs)
     (λ c κs. search needs)
-    (λ c κs. search needs)
+    (λ c. search needs)
+    (λ c. search needs)
     returns)

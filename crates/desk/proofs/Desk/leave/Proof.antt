@@ -1,63 +1,97 @@
 -- `Desk::leave` meets its contract: the checks in rising order, then the pass over the other waiters. Assumes nothing.
 use mathlib.Core.Path.{_≡_, sym, ap, _∙_}
-use mathlib.Core.Bool.{false}
-use mathlib.Core.List.{[], _∷_}
+use mathlib.Core.Bool.{Bool}
+use mathlib.Core.List.{List}
 use Prim.Native.Nat.{_≤_}
 use native.Mathlib.Omega.{arith}
 use lib.Dec.{ltb}
 use lib.ListN.{length}
 use borrow.Author.Needs.{needs}
 use borrow.Author.Tests.{ltb-false}
-use Rattle.intervals.specs.Lists.{count}
-use Rattle.intervals.specs.Answer.{_when_}
-use Rattle.intervals.proofs.Refusals.{refused-here, refused-later}
-use Rattle.desk.specs.declared.Desk.{Desk}
-use Rattle.desk.specs.Desks.{lent, stageAt, isOut}
-use Rattle.desk.specs.Inner.{othersOf}
-use Rattle.desk.proofs.Queues.{others-few}
-use Rattle.desk.proofs.Judging.{judged-own, judged-some, not-short, few-waiting, refusal-nil}
-use Rattle.desk.proofs.Answering.{leave-refused, leave-left, swept-others}
+use Rattle.lists.specs.Answer.{Check, refusal}
+use Rattle.lists.proofs.Refusals.{refused-here, refused-later}
+use Rattle.lists.proofs.Loops.{field-length}
+use Rattle.locks.specs.Stages.{isOut}
+use Rattle.locks.specs.Lent.{Hierarchy, lent}
+use Rattle.parties.proofs.Sweeps.{leaving-few}
+use Rattle.arrivals.proofs.Queues.{places-length}
+use Rattle.desk.specs.Desks.{stageAt}
+use Rattle.desk.specs.Steps.{leaveOwn, StepFacts, afterLeaving, leaveRefusal}
+use Rattle.desk.proofs.Judging.{judged-own, judged-some, judged-facts, refusal-nil}
+use Rattle.desk.proofs.Answering.{leave-refused, leave-left}
 use Rattle.desk.proofs.Desk.leave.Statement.{statement}
 use Rattle.desk.proofs.Desk.leave.Tie as tie
 
+abbrev lentTo : tie.Start → Hierarchy
+lentTo s = lent (s .args .n) (s .args .intervals .now) (s .args .edges .now) (s .args .edge-count)
+
+-- the list may be too short
+abbrev short : tie.Start → Bool
+short s = ltb (length (s .args .list .now)) 32
+
+-- what leave alone looks at
+abbrev own : tie.Start → List Check
+own s = leaveOwn (s .args .self) (s .args .party)
+
+-- what a step that was not refused before its own checks knows
+facts : (c : tie.Else1) → StepFacts (lentTo (c .before .before .before .before .before)) (c .before .before .before .before .before .args .self)
+    (c .before .before .before .before .before .args .party) (short (c .before .before .before .before .before))
+facts c = let s = c .before .before .before .before .before in
+    judged-facts (lentTo s) (s .args .self) (s .args .party) (short s) (c .before .judge .result) (c .if1 .left) (c .before .judge .ensures .1)
+
+-- so its own check decides
+passed : (c : tie.Else1) → leaveRefusal (lentTo (c .before .before .before .before .before)) (c .before .before .before .before .before .args .self)
+    (c .before .before .before .before .before .args .party) (c .before .before .before .before .before .args .list .now) ≡ refusal (own (c .before .before .before .before .before))
+passed c = let s = c .before .before .before .before .before in
+    judged-own (lentTo s) (s .args .self) (s .args .party) (short s) (c .before .judge .result) (c .if1 .left) (c .before .judge .ensures .1) (own s)
+
+-- who was found is the party
+found : (c : tie.After-is-out)
+    → isOut (stageAt (c .before .before .before .before .before .before .before .before .args .self) (c .before .before .before .before .before .before .before .before .args .party))
+    ≡ c .is-out .result
+found c = ap isOut (sym (c .before .stage .ensures)) ∙ sym (c .is-out .ensures)
+
+long : (s : tie.Start) → length (s .args .self .queue) ≡ 32
+long s = search (field-length, needs)
+
+-- no more are granted than the list has places
+few : (c : tie.After-leaving)
+    → length (afterLeaving (c .before .before .before .before .before .before .before .before .before .before .before .args .self)
+    (c .before .before .before .before .before .before .before .before .before .before .before .args .party) .granted) ≤ 32
+few c = let s = c .before .before .before .before .before .before .before .before .before .before .before in
+    leaving-few (s .args .self .entries) (s .args .self .queue) (s .args .self .waiting) (s .args .party) (long s)
+
 returns : tie.Need-returns
-returns c = let z = c .before .before .before .before .before .args in let h = lent (z .n) (z .intervals .now) (z .edges .now) (z .count) in
-    leave-refused h (z .self) (z .party) (z .list .now) (c .before .judge .result) (judged-some h (z .self) (z .party) (ltb (length (z .list .now)) 32) (c .before .judge .result) (c .if1 .taken) (c .before .judge .ensures .1) (13 when isOut (stageAt (z .self) (z .party)) ∷ []))
+returns c = let s = c .before .before .before .before .before in
+    leave-refused (lentTo s) (s .args .self) (s .args .party) (s .args .list .now) (c .before .judge .result)
+    (judged-some (lentTo s) (s .args .self) (s .args .party) (short s) (c .before .judge .result) (c .if1 .taken) (c .before .judge .ensures .1) (own s))
 
 returns-2 : tie.Need-returns-2
-returns-2 c = let z = c .before .before .before .before .before .before .before .before .args in let h = lent (z .n) (z .intervals .now) (z .edges .now) (z .count) in
-    leave-refused h (z .self) (z .party) (z .list .now) 13 (judged-own h (z .self) (z .party) (ltb (length (z .list .now)) 32) (c .before .before .before .before .judge .result) (c .before .before .before .if1 .left) (c .before .before .before .before .judge .ensures .1) (13 when isOut (stageAt (z .self) (z .party)) ∷ []) ∙ refused-here _ _ (ap isOut (sym (c .before .before .stage .ensures)) ∙ sym (c .before .is-out .ensures) ∙ c .if2 .taken))
+returns-2 c = let t = c .before .before .before .before in let s = t .before .before .before .before .before in
+    leave-refused (lentTo s) (s .args .self) (s .args .party) (s .args .list .now) 13 (passed t ∙ refused-here _ _ (found (c .before) ∙ c .if2 .taken))
 
-without-requires : tie.Need-without-requires
-without-requires c κs = let z = c .before .before .before .before .before .before .before .before .args in let h = lent (z .n) (z .intervals .now) (z .edges .now) (z .count) in
-    few-waiting h (z .self) (z .party) (ltb (length (z .list .now)) 32) (c .before .before .before .before .judge .result) (c .before .before .before .if1 .left) (c .before .before .before .before .judge .ensures .1)
-
-sweep-requires : tie.Need-sweep-requires
-sweep-requires c κs = let z = c .before .before .before .before .before .before .before .before .before .before .before .before .args in let h = lent (z .n) (z .intervals .now) (z .edges .now) (z .count) in
-    let few : length (othersOf (z .self) (z .party)) ≤ 32 = others-few (z .self) (z .party) (few-waiting h (z .self) (z .party) (ltb (length (z .list .now)) 32) (c .before .before .before .before .before .before .before .before .judge .result) (c .before .before .before .before .before .before .before .if1 .left) (c .before .before .before .before .before .before .before .before .judge .ensures .1)) in
-    (ap (λ (d : Desk). d .queue) (c .before .gone .ensures), ap (λ (d : Desk). d .waiting) (c .before .gone .ensures), omega (arith, c .before .before .before .without .ensures .1), ltb-false (length (z .list .now)) 32 (not-short h (z .self) (z .party) (ltb (length (z .list .now)) 32) (c .before .before .before .before .before .before .before .before .judge .result) (c .before .before .before .before .before .before .before .if1 .left) (c .before .before .before .before .before .before .before .before .judge .ensures .1)))
+put-list-requires : tie.Need-put-list-requires
+put-list-requires c κs =
+    let k = c .before .before .before .before in
+    let t = k .before .before .before .before .before .before in
+    let s = t .before .before .before .before .before in
+    let g = k .leaving .ensures .granted in (
+      omega (arith, g .1, few k, ap length (g .0), places-length (afterLeaving (s .args .self) (s .args .party) .granted)),
+      omega (arith, g .1, few k, ltb-false (length (s .args .list .now)) 32 (facts t .own-lent)),
+    )
 
 same-length : tie.Need-same-length
 same-length c = search needs
 
 returns-3 : tie.Need-returns-3
 returns-3 c =
-    let s = c .before .before .before .before .before in
-    let w = s .before .before .before .before in
-    let j = w .before .before .before .before .before in
-    let z = j .before .before .before .before .args in
-    let h = lent (z .n) (z .intervals .now) (z .edges .now) (z .count) in
-    let short = ltb (length (z .list .now)) 32 in
-    let checked = judged-own h (z .self) (z .party) short (j .judge .result) (w .before .before .before .before .if1 .left) (j .judge .ensures .1) in
-    let few : length (othersOf (z .self) (z .party)) ≤ 32
-    = others-few (z .self) (z .party) (few-waiting h (z .self) (z .party) short (j .judge .result) (w .before .before .before .before .if1 .left) (j .judge .ensures .1)) in
-    let out : isOut (stageAt (z .self) (z .party)) ≡ false
-    = ap isOut (sym (w .before .before .before .stage .ensures)) ∙ sym (w .before .before .is-out .ensures) ∙ w .before .if2 .left in
-    leave-left h (z .self) (z .party) (z .list .now) (checked (13 when isOut (stageAt (z .self) (z .party)) ∷ []) ∙ refused-later _ _ out ∙ refusal-nil)
-    (s .sweep .result) (s .sweep .last .1 .1 .1 .0) (c .before .count-grants .result) (c .with-grants .result)
-    (swept-others h (z .self) (z .party) (z .list .now) (s .before .before .gone .result) (w .without .result .places) (w .without .result .count) (s .sweep .result)
-    (s .sweep .last .1 .1 .1 .0) few (s .before .before .gone .ensures) (w .without .ensures .0) (w .without .ensures .1) (s .sweep .ensures))
-    (c .before .count-grants .ensures) (c .with-grants .ensures)
+    let w = c .before .before .before in
+    let k = w .before .before .before .before .before in
+    let o = k .before .before in
+    let t = o .before .before .before .before in
+    let s = t .before .before .before .before .before in
+    leave-left (lentTo s) (s .args .self) (s .args .party) (s .args .list .now) (passed t ∙ refused-later _ _ (found (o .before) ∙ o .if2 .left) ∙ refusal-nil)
+    (k .leaving .result) _ (c .after .result) (k .leaving .ensures) (few k) (w .put-list .ensures) (c .after .ensures)
 
 pub leave-spec : {M : Type 1} → statement M
 leave-spec =
@@ -68,10 +102,9 @@ leave-spec =
     (λ c κs. search needs)
     (λ c κs. search needs)
     returns-2
-    without-requires
     (λ c κs. search needs)
-    sweep-requires
-    (λ c κs. search needs)
+    (λ c. search needs)
+    put-list-requires
     (λ c κs. search needs)
     same-length
     returns-3)

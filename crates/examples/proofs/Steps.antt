@@ -1,0 +1,29 @@
+-- THE STEPS' REFUSALS, and desks made by hand: every figure is what the definitions give, by computation. Assumes nothing.
+use mathlib.Core.Path.{_≡_, refl}
+use mathlib.Core.Bool.{true}
+use Rattle.lists.specs.Lists.{allBelow, anyBelow, every, any, keep, over, foldFrom, least, greatest}
+use Rattle.lists.specs.Answer.{refusal}
+use Rattle.hierarchy.specs.Hierarchy.{someEdge}
+use Rattle.covers.specs.Cover.{closest}
+use Rattle.parties.specs.Sound.{soundParties}
+use Rattle.parties.specs.Sweeps.{offer, sweep}
+use Rattle.desk.specs.Steps.{enterStep, getStep, putStep, leaveStep}
+use Rattle.runs.specs.Run.{listed}
+use Rattle.examples.specs.Cases.{sameNumbers, asNumbers, sameAnswers}
+use Rattle.examples.specs.Rows.{right}
+use Rattle.examples.specs.Steps.{allStages, deskNumbers, steps, tables, desks}
+
+pub all-steps : every right steps ≡ true
+unfolding allBelow anyBelow every any keep over foldFrom least greatest refusal someEdge closest soundParties enterStep getStep putStep offer
+    sweep leaveStep listed sameNumbers asNumbers sameAnswers right steps
+all-steps = refl
+
+pub all-tables : every right tables ≡ true
+unfolding allBelow anyBelow every any keep over foldFrom least greatest refusal someEdge closest soundParties enterStep getStep putStep offer
+    sweep leaveStep listed sameNumbers asNumbers sameAnswers right tables
+all-tables = refl
+
+pub all-desks : every right desks ≡ true
+unfolding allBelow anyBelow every any keep over foldFrom least greatest refusal someEdge closest soundParties enterStep getStep putStep offer
+    sweep leaveStep listed sameNumbers asNumbers sameAnswers allStages deskNumbers right desks
+all-desks = refl

@@ -1,0 +1,74 @@
+-- Building and covers beyond the starred cases and the edges: which refusal is given, what is left in the buffers, intervals, covers. Assumes nothing.
+use mathlib.Core.List.{List, [], _∷_, _++_}
+use Prim.Native.Nat.{ℕ, _*_, _/_}
+use lib.ListN.{length, replicate}
+use Rattle.lists.specs.Answer.{numberOf}
+use Rattle.intervals.specs.Build.{BuildResult, buildRefusal, buildStep}
+use Rattle.covers.specs.Cover.{coverOf}
+use Rattle.examples.specs.Cases.{Case, intervals, cover}
+use Rattle.examples.specs.Table.{T, shared}
+use Rattle.examples.specs.Rows.{Row, is, are}
+
+-- what building n nodes with these edges is refused with, lent as many places as it needs and so many bytes of scratch
+abbrev pub building : ℕ → List ℕ → ℕ → ℕ
+building n edges scratch = numberOf (buildRefusal n edges (length edges / 2) (replicate (2 * n) 7) (replicate scratch 9))
+
+-- building two nodes, lent five places of 7 and so many bytes of 9
+abbrev pub pair : List ℕ → ℕ → BuildResult
+pair edges scratch = buildStep 2 edges (length edges / 2) (replicate 5 7) (replicate scratch 9)
+
+-- the rows
+unfoldable pub hierarchies : List Row
+hierarchies =
+    -- 1: the edge table is one number short; 1 before 5
+    is (numberOf (buildRefusal 2 (0 ∷ []) 1 (replicate 4 7) (replicate 2048 9))) 1
+    ∷ is (building 0 (0 ∷ 1 ∷ []) 2047) 1
+    ∷ is (building 0 (0 ∷ 1 ∷ []) 2048) 5
+    -- 1,025 edges: 6; 5 before it, for 257 nodes
+    ∷ is (building 2 (replicate 2050 0) 2048) 6
+    ∷ is (building 257 (replicate 2050 0) 2048) 5
+    -- 7 at a later edge: child 0, a child and a parent not below n; 7 before 8
+    ∷ is (building 2 (0 ∷ 1 ∷ 1 ∷ 0 ∷ []) 2048) 7
+    ∷ is (building 2 (0 ∷ 1 ∷ 0 ∷ 2 ∷ []) 2048) 7
+    ∷ is (building 2 (0 ∷ 1 ∷ 2 ∷ 1 ∷ []) 2048) 7
+    ∷ is (building 2 (0 ∷ 1 ∷ 0 ∷ 1 ∷ 1 ∷ 1 ∷ []) 2048) 7
+    -- 8: the second edge again as the fourth
+    ∷ is (building 3 (0 ∷ 1 ∷ 1 ∷ 2 ∷ 0 ∷ 2 ∷ 1 ∷ 2 ∷ []) 2048) 8
+    -- 9: a cycle that the root does not reach
+    ∷ is (building 4 (0 ∷ 1 ∷ 2 ∷ 3 ∷ 3 ∷ 2 ∷ []) 2048) 9
+    -- after 1 the scratch is unchanged; after another refusal, and where it is built, its first 2,048 bytes are zero
+    ∷ are ((pair (0 ∷ 1 ∷ []) 2047) .scratch) (replicate 2047 9)
+    ∷ are ((pair (1 ∷ 1 ∷ []) 2050) .scratch) (replicate 2048 0 ++ (9 ∷ 9 ∷ []))
+    ∷ are ((pair (0 ∷ 1 ∷ []) 2050) .scratch) (replicate 2048 0 ++ (9 ∷ 9 ∷ []))
+    -- after a refusal the places are unchanged; those past 2n stay so where it is built
+    ∷ are ((pair (0 ∷ 1 ∷ []) 2047) .places) (replicate 5 7)
+    ∷ are ((pair (1 ∷ 1 ∷ []) 2050) .places) (replicate 5 7)
+    ∷ are ((pair (0 ∷ 1 ∷ []) 2050) .places) (1 ∷ 1 ∷ 1 ∷ 1 ∷ 7 ∷ [])
+    -- covers over tables of any contents: the narrower of two, and not a node past n; 0 where none contains the call's
+    ∷ is (coverOf 2 (5 ∷ 6 ∷ 1 ∷ 9 ∷ []) (1 ∷ [])) 1
+    ∷ is (coverOf 1 (5 ∷ 6 ∷ 1 ∷ 9 ∷ []) (1 ∷ [])) 0
+    ∷ is (coverOf 0 (5 ∷ 6 ∷ 1 ∷ 9 ∷ []) (1 ∷ [])) 0
+    -- equally narrow ones with the same interval, and with two others
+    ∷ is (coverOf 3 (1 ∷ 9 ∷ 4 ∷ 4 ∷ 4 ∷ 4 ∷ []) (2 ∷ [])) 1
+    ∷ is (coverOf 3 (1 ∷ 4 ∷ 2 ∷ 4 ∷ 1 ∷ 3 ∷ 2 ∷ 3 ∷ []) (3 ∷ [])) 1
+    ∷ is (coverOf 3 (1 ∷ 4 ∷ 1 ∷ 3 ∷ 2 ∷ 4 ∷ 2 ∷ 3 ∷ []) (3 ∷ [])) 1
+    -- low above high
+    ∷ is (coverOf 2 (9 ∷ 1 ∷ 3 ∷ 3 ∷ []) (0 ∷ [])) 0
+    -- past the end of a table stands [0,0], which a call without names has
+    ∷ is (coverOf 9 (3 ∷ 4 ∷ 1 ∷ 1 ∷ []) []) 2
+    ∷ is (coverOf 9 (3 ∷ 4 ∷ 0 ∷ []) []) 1
+    ∷ []
+
+-- intervals of shared children and of cycles, and covers of T
+unfoldable pub small : List Case
+small =
+    intervals 4 (0 ∷ 1 ∷ 0 ∷ 2 ∷ 1 ∷ 3 ∷ 2 ∷ 3 ∷ []) (1 ∷ 1 ∷ 1 ∷ 1 ∷ 1 ∷ 1 ∷ 1 ∷ 1 ∷ [])
+    ∷ intervals 5 shared (1 ∷ 3 ∷ 1 ∷ 1 ∷ 2 ∷ 2 ∷ 3 ∷ 3 ∷ 1 ∷ 3 ∷ [])
+    ∷ intervals 4 (0 ∷ 1 ∷ 1 ∷ 2 ∷ 2 ∷ 3 ∷ 3 ∷ 1 ∷ []) (1 ∷ 1 ∷ 1 ∷ 1 ∷ 1 ∷ 1 ∷ 1 ∷ 1 ∷ [])
+    ∷ intervals 4 (0 ∷ 1 ∷ 1 ∷ 2 ∷ 2 ∷ 1 ∷ 2 ∷ 3 ∷ 0 ∷ 3 ∷ []) (1 ∷ 2 ∷ 1 ∷ 2 ∷ 1 ∷ 2 ∷ 2 ∷ 2 ∷ [])
+    ∷ intervals 7 (3 ∷ 4 ∷ 2 ∷ 3 ∷ 1 ∷ 2 ∷ 0 ∷ 1 ∷ 4 ∷ 2 ∷ 1 ∷ 5 ∷ 4 ∷ 6 ∷ 5 ∷ 6 ∷ [])
+    (1 ∷ 2 ∷ 1 ∷ 2 ∷ 1 ∷ 2 ∷ 1 ∷ 2 ∷ 1 ∷ 2 ∷ 2 ∷ 2 ∷ 2 ∷ 2 ∷ [])
+    ∷ cover 10 T (3 ∷ 3 ∷ 3 ∷ []) 3
+    ∷ cover 10 T (0 ∷ []) 0
+    ∷ cover 10 T (6 ∷ []) 2
+    ∷ []

@@ -1,0 +1,340 @@
+-- The steps' refusals over table T, on the desk after the short visit's first four steps, on tables and on desks that are wrong in one way. Assumes nothing.
+use mathlib.Core.List.{List, [], _∷_, _++_}
+use Prim.Native.Nat.{ℕ, _+_}
+use lib.ListN.{length, set, take, replicate}
+use Rattle.lists.specs.Lists.{one}
+use Rattle.locks.specs.declared.Mode.{Mode}
+use Rattle.locks.specs.declared.Mode.the-variants.{Reading, Writing}
+use Rattle.locks.specs.declared.Lock.{Lock}
+use Rattle.locks.specs.declared.Stage.{Stage}
+use Rattle.locks.specs.declared.Stage.the-variants.{Out, Waiting, Holding}
+use Rattle.parties.specs.declared.Entry.{Entry}
+use Rattle.desk.specs.declared.Desk.{Desk}
+use Rattle.locks.specs.Lent.{Hierarchy, lent}
+use Rattle.parties.specs.Parties.{entryOf}
+use Rattle.desk.specs.Desks.{freshDesk}
+use Rattle.desk.specs.Sound.{soundDesk}
+use Rattle.locks.specs.Stages.{isReading}
+use Rattle.desk.specs.Steps.{enterStep, getStep, putStep, LeaveResult, leaveStep}
+use Rattle.runs.specs.Run.{listed}
+use Rattle.replay.specs.Replay.{StepAnswer, granted, waits, value, stored, left, refused, enterLine, getLine, putLine, leaveLine}
+use Rattle.examples.specs.Table.{T}
+use Rattle.examples.specs.Rows.{Row, is, are, answer}
+
+-- T's intervals
+abbrev pub intervalsT : List ℕ
+intervalsT = 1 ∷ 4 ∷ 1 ∷ 2 ∷ 3 ∷ 4 ∷ 1 ∷ 1 ∷ 2 ∷ 2 ∷ 3 ∷ 3 ∷ 3 ∷ 4 ∷ 3 ∷ 3 ∷ 4 ∷ 4 ∷ 3 ∷ 3 ∷ []
+
+-- T as it is lent
+abbrev pub tableT : Hierarchy
+tableT = lent 10 intervalsT T 11
+
+-- a lock
+abbrev pub lock : Mode → ℕ → ℕ → ℕ → Lock
+lock mode cover low high = record { mode = mode; cover = cover; low = low; high = high }
+
+-- DESKS BY HAND. With another stage for a party
+abbrev pub seat : Desk → ℕ → Stage → Desk
+seat d party stage = record { entries = set (d .entries) party (entryOf stage); queue = d .queue; waiting = d .waiting; grants = d .grants }
+
+-- with a number more in the arrival list
+abbrev pub list : Desk → ℕ → Desk
+list d party = record { entries = d .entries; queue = set (d .queue) (d .waiting) party; waiting = d .waiting + 1; grants = d .grants }
+
+-- with another count of waiting parties
+abbrev pub counting : Desk → ℕ → Desk
+counting d waiting = record { entries = d .entries; queue = d .queue; waiting = waiting; grants = d .grants }
+
+-- with another count of grants
+abbrev pub granting : Desk → ℕ → Desk
+granting d grants = record { entries = d .entries; queue = d .queue; waiting = d .waiting; grants = grants }
+
+-- after the short visit's first four steps: 1 writes 5, 3 reads 3, 2 and 4 wait to read 2 and 0, in this order
+abbrev pub four : Desk
+four =
+    granting
+    (list (seat (list (seat (seat (seat freshDesk 1 (Holding (lock Writing 5 3 3))) 3 (Holding (lock Reading 3 1 1)))
+    2 (Waiting (lock Reading 2 3 4))) 2) 4 (Waiting (lock Reading 0 1 4))) 4)
+    2
+
+-- the desk after an enter over T
+abbrev pub afterEnter : Desk → ℕ → Mode → List ℕ → Desk
+afterEnter d party mode names = (enterStep tableT d party mode names (length names)) .desk
+
+-- the desk that these four steps make
+abbrev pub stepped : Desk
+stepped =
+    afterEnter (afterEnter (afterEnter (afterEnter freshDesk 1 Writing (7 ∷ [])) 2 Reading (6 ∷ [])) 3 Reading (3 ∷ [])) 4 Reading (4 ∷ 5 ∷ [])
+
+-- a stage as numbers: out, waiting or holding, then the lock
+abbrev pub stageNumbers : Stage → List ℕ
+stageNumbers Out = 0 ∷ []
+stageNumbers (Waiting l) = 1 ∷ one (isReading (l .mode)) ∷ l .cover ∷ l .low ∷ l .high ∷ []
+stageNumbers (Holding l) = 2 ∷ one (isReading (l .mode)) ∷ l .cover ∷ l .low ∷ l .high ∷ []
+
+-- the stages of all parties
+unfoldable pub allStages : List Entry → List ℕ
+allStages [] = []
+allStages (e ∷ es) = stageNumbers (e .stage) ++ allStages es
+
+-- a whole desk as numbers
+unfoldable pub deskNumbers : Desk → List ℕ
+deskNumbers d = d .waiting ∷ d .grants ∷ d .queue ++ allStages (d .entries)
+
+-- STEPS over T, with ten values of 100 and 32 bytes. Enter, with as many names as lent and a name count
+abbrev pub enters : Desk → ℕ → List ℕ → ℕ → List StepAnswer
+enters d party names nameCount = enterLine ((enterStep tableT d party Reading names nameCount) .answer) ∷ []
+
+-- get of so many values
+abbrev pub gets : ℕ → Desk → ℕ → ℕ → List StepAnswer
+gets values d party node = getLine ((getStep tableT d party node (replicate values 100)) .answer) ∷ []
+
+-- put to so many values
+abbrev pub puts : ℕ → Desk → ℕ → ℕ → List StepAnswer
+puts values d party node = putLine ((putStep tableT d party node 1 (replicate values 100)) .answer) ∷ []
+
+-- what a leave comes to
+abbrev pub leftLine : LeaveResult → StepAnswer
+leftLine r = leaveLine (listed (r .list) (r .answer))
+
+-- leave with so many bytes
+abbrev pub leaves : ℕ → Desk → ℕ → List StepAnswer
+leaves bytes d party = leftLine (leaveStep tableT d party (replicate bytes 170)) ∷ []
+
+-- all four over a hierarchy: enter 5 writing {7}, get 1 9, put 1 9, leave 1
+abbrev pub allFour : Hierarchy → Desk → List StepAnswer
+allFour H d =
+    enterLine ((enterStep H d 5 Writing (7 ∷ []) 1) .answer)
+    ∷ getLine ((getStep H d 1 9 (replicate 10 100)) .answer)
+    ∷ putLine ((putStep H d 1 9 77 (replicate 10 100)) .answer)
+    ∷ leftLine (leaveStep H d 1 (replicate 34 170))
+    ∷ []
+
+-- each is refused with this number
+abbrev pub all : ℕ → List StepAnswer
+all k = refused k ∷ refused k ∷ refused k ∷ refused k ∷ []
+
+-- none is refused on the desk after four steps
+abbrev pub good : List StepAnswer
+good = waits ∷ value 100 ∷ stored ∷ left (2 ∷ 4 ∷ []) ∷ []
+
+-- REFUSALS of what one step alone is lent and asks for, lowest number first; where two apply, the lower is given
+unfoldable pub steps : List Row
+steps =
+    -- 1: fewer names than counted, also where 11, 12 or 15 holds
+    answer (enters four 5 (7 ∷ []) 2) (refused 1 ∷ [])
+    ∷ answer (enters four 5 [] 1) (refused 1 ∷ [])
+    ∷ answer (enters four 32 (replicate 8 3) 9) (refused 1 ∷ [])
+    ∷ answer (enters four 1 (99 ∷ []) 18446744073709551615) (refused 1 ∷ [])
+    -- 1: nine values, also where 11 or 17 holds
+    ∷ answer (gets 9 four 1 5) (refused 1 ∷ [])
+    ∷ answer (puts 9 four 1 5) (refused 1 ∷ [])
+    ∷ answer (gets 9 four 32 5) (refused 1 ∷ [])
+    ∷ answer (puts 9 four 3 3) (refused 1 ∷ [])
+    -- 1: 31 bytes, also where 11 holds
+    ∷ answer (leaves 31 four 1) (refused 1 ∷ [])
+    ∷ answer (leaves 31 four 32) (refused 1 ∷ [])
+    -- 11: party 32, and the largest number
+    ∷ answer (enters freshDesk 32 (3 ∷ []) 1) (refused 11 ∷ [])
+    ∷ answer (gets 10 freshDesk 32 3) (refused 11 ∷ [])
+    ∷ answer (puts 10 freshDesk 32 3) (refused 11 ∷ [])
+    ∷ answer (leaves 32 freshDesk 32) (refused 11 ∷ [])
+    ∷ answer (enters freshDesk 18446744073709551615 (3 ∷ []) 1) (refused 11 ∷ [])
+    ∷ answer (gets 10 freshDesk 18446744073709551615 3) (refused 11 ∷ [])
+    ∷ answer (puts 10 freshDesk 18446744073709551615 3) (refused 11 ∷ [])
+    ∷ answer (leaves 32 freshDesk 18446744073709551615) (refused 11 ∷ [])
+    -- 11: numbers that end in the bits of a holder; 11 before 15
+    ∷ answer (gets 10 four 257 9) (refused 11 ∷ [])
+    ∷ answer (leaves 32 four 4294967297) (refused 11 ∷ [])
+    ∷ answer (enters four 32 [] 0) (refused 11 ∷ [])
+    ∷ answer (puts 10 four 32 10) (refused 11 ∷ [])
+    -- party 31 is one
+    ∷ answer (enters freshDesk 31 (3 ∷ []) 1) (granted 3 ∷ [])
+    ∷ answer (gets 10 (seat freshDesk 31 (Holding (lock Writing 3 1 1))) 31 3) (value 100 ∷ [])
+    ∷ answer (puts 10 (seat freshDesk 31 (Holding (lock Writing 3 1 1))) 31 3) (stored ∷ [])
+    ∷ answer (leaves 32 (seat freshDesk 31 (Holding (lock Writing 3 1 1))) 31) (left [] ∷ [])
+    -- 12: a holder, a waiter; 12 before 15
+    ∷ answer (enters (seat freshDesk 1 (Holding (lock Reading 3 1 1))) 1 (3 ∷ []) 1) (refused 12 ∷ [])
+    ∷ answer (enters four 4 (3 ∷ []) 1) (refused 12 ∷ [])
+    ∷ answer (enters four 1 [] 0) (refused 12 ∷ [])
+    ∷ answer (enters four 4 (10 ∷ []) 1) (refused 12 ∷ [])
+    -- 13: on a fresh desk, and on one of others; 13 before 15
+    ∷ answer (leaves 32 freshDesk 4) (refused 13 ∷ [])
+    ∷ answer (gets 10 freshDesk 4 9) (refused 13 ∷ [])
+    ∷ answer (puts 10 freshDesk 4 9) (refused 13 ∷ [])
+    ∷ answer (leaves 32 four 5) (refused 13 ∷ [])
+    ∷ answer (gets 10 four 5 10) (refused 13 ∷ [])
+    ∷ answer (puts 10 four 5 10) (refused 13 ∷ [])
+    -- 14; 14 before 15, and before 16 and 17
+    ∷ answer (gets 10 four 4 9) (refused 14 ∷ [])
+    ∷ answer (puts 10 four 4 9) (refused 14 ∷ [])
+    ∷ answer (gets 10 four 4 10) (refused 14 ∷ [])
+    ∷ answer (puts 10 four 4 10) (refused 14 ∷ [])
+    ∷ answer (gets 10 four 2 3) (refused 14 ∷ [])
+    -- 15: the name count
+    ∷ answer (enters four 5 [] 0) (refused 15 ∷ [])
+    ∷ answer (enters four 5 (3 ∷ []) 0) (refused 15 ∷ [])
+    ∷ answer (enters four 5 (replicate 9 3) 9) (refused 15 ∷ [])
+    ∷ answer (enters four 5 (replicate 8 3) 8) (granted 3 ∷ [])
+    ∷ answer (enters freshDesk 5 (9 ∷ 8 ∷ 7 ∷ 6 ∷ 5 ∷ 2 ∷ 8 ∷ 9 ∷ []) 8) (granted 2 ∷ [])
+    ∷ answer (enters freshDesk 5 (9 ∷ 8 ∷ 7 ∷ 6 ∷ 5 ∷ 4 ∷ 3 ∷ 2 ∷ 1 ∷ []) 9) (refused 15 ∷ [])
+    -- 15: a node not below n, named among others; a name past the name count is not looked at
+    ∷ answer (enters four 5 (10 ∷ []) 1) (refused 15 ∷ [])
+    ∷ answer (enters four 5 (3 ∷ 65535 ∷ []) 2) (refused 15 ∷ [])
+    ∷ answer (enters four 5 (replicate 7 3 ++ (10 ∷ [])) 8) (refused 15 ∷ [])
+    ∷ answer (enters four 5 (3 ∷ 10 ∷ []) 1) (granted 3 ∷ [])
+    -- 15: a node not below n, asked for; 15 before 16 and 17
+    ∷ answer (gets 10 four 1 10) (refused 15 ∷ [])
+    ∷ answer (puts 10 four 1 10) (refused 15 ∷ [])
+    ∷ answer (gets 10 four 1 18446744073709551615) (refused 15 ∷ [])
+    ∷ answer (puts 10 four 3 10) (refused 15 ∷ [])
+    -- 16; 16 before 17
+    ∷ answer (gets 10 four 3 4) (refused 16 ∷ [])
+    ∷ answer (puts 10 four 3 4) (refused 16 ∷ [])
+    ∷ answer (gets 10 four 1 8) (refused 16 ∷ [])
+    ∷ answer (gets 10 four 1 2) (refused 16 ∷ [])
+    ∷ answer (puts 10 four 1 3) (refused 16 ∷ [])
+    -- 17
+    ∷ answer (gets 10 four 3 3) (value 100 ∷ [])
+    ∷ answer (puts 10 four 3 3) (refused 17 ∷ [])
+    ∷ []
+
+-- two nodes with these intervals and the edge between them, on a fresh desk: node 7, which enter names, is not below 2
+abbrev pub spans : List ℕ → List StepAnswer
+spans intervals = allFour (lent 2 intervals (0 ∷ 1 ∷ []) 1) freshDesk
+
+-- two nodes of interval [1,1] with these edges
+abbrev pub edged : List ℕ → ℕ → List StepAnswer
+edged edges edgeCount = allFour (lent 2 (1 ∷ 1 ∷ 1 ∷ 1 ∷ []) edges edgeCount) freshDesk
+
+-- T with another interval of node 4, and numbers behind the table
+abbrev pub node4 : ℕ → ℕ → List ℕ → List StepAnswer
+node4 low high past = allFour (lent 10 (set (set intervalsT 8 low) 9 high ++ past) T 11) four
+
+-- THE TABLES that every step is lent: 1, 5, 6, 7 and 10
+unfoldable pub tables : List Row
+tables =
+    answer (allFour tableT four) good
+    -- 1: places and edge numbers, also where twice a number would wrap; 1 before 5
+    ∷ answer (allFour (lent 2 (1 ∷ 1 ∷ 1 ∷ []) (0 ∷ 1 ∷ []) 1) freshDesk) (all 1)
+    ∷ answer (allFour (lent 10 (take 19 intervalsT) T 11) four) (all 1)
+    ∷ answer (allFour (lent 10 [] T 11) four) (all 1)
+    ∷ answer (allFour (lent 10 intervalsT (take 21 T) 11) four) (all 1)
+    ∷ answer (allFour (lent 10 intervalsT (take 21 T) 10) four) good
+    ∷ answer (allFour (lent 9223372036854775808 intervalsT T 11) four) (all 1)
+    ∷ answer (allFour (lent 10 intervalsT T 9223372036854775819) four) (all 1)
+    ∷ answer (allFour (lent 0 intervalsT (take 21 T) 11) four) (all 1)
+    -- 5
+    ∷ answer (allFour (lent 0 intervalsT T 11) four) (all 5)
+    ∷ answer (allFour (lent 0 [] [] 0) four) (all 5)
+    -- 6 before 7; a step does not look at 8
+    ∷ answer (allFour (lent 10 intervalsT (replicate 2050 0) 1025) four) (all 6)
+    ∷ answer (allFour (lent 10 intervalsT (replicate 2050 0) 1024) four) (all 7)
+    ∷ answer (allFour (lent 10 intervalsT (0 ∷ 1 ∷ 0 ∷ 1 ∷ []) 2) four) good
+    -- 7: equal ends, child 0, a child and a parent not below n, a later edge; past the edge count it is not looked at; 7 before 10
+    ∷ answer (edged (1 ∷ 1 ∷ []) 1) (all 7)
+    ∷ answer (edged (1 ∷ 0 ∷ []) 1) (all 7)
+    ∷ answer (edged (0 ∷ 2 ∷ []) 1) (all 7)
+    ∷ answer (edged (2 ∷ 1 ∷ []) 1) (all 7)
+    ∷ answer (edged (0 ∷ 1 ∷ 1 ∷ 1 ∷ []) 2) (all 7)
+    ∷ answer (edged (0 ∷ 1 ∷ 1 ∷ 1 ∷ []) 1) (refused 15 ∷ refused 13 ∷ refused 13 ∷ refused 13 ∷ [])
+    ∷ answer (allFour (lent 2 (0 ∷ 1 ∷ 0 ∷ 1 ∷ []) (1 ∷ 1 ∷ []) 1) freshDesk) (all 7)
+    -- 10: intervals of two nodes
+    ∷ answer (spans (1 ∷ 256 ∷ 256 ∷ 256 ∷ [])) (refused 15 ∷ refused 13 ∷ refused 13 ∷ refused 13 ∷ [])
+    ∷ answer (spans (0 ∷ 4 ∷ 1 ∷ 1 ∷ [])) (all 10)
+    ∷ answer (spans (0 ∷ 4 ∷ 0 ∷ 1 ∷ [])) (all 10)
+    ∷ answer (spans (1 ∷ 257 ∷ 1 ∷ 1 ∷ [])) (all 10)
+    ∷ answer (spans (1 ∷ 257 ∷ 1 ∷ 257 ∷ [])) (all 10)
+    ∷ answer (spans (4 ∷ 1 ∷ 1 ∷ 1 ∷ [])) (all 10)
+    ∷ answer (spans (1 ∷ 4 ∷ 3 ∷ 2 ∷ [])) (all 10)
+    ∷ answer (spans (1 ∷ 4 ∷ 4 ∷ 5 ∷ [])) (all 10)
+    ∷ answer (spans (2 ∷ 4 ∷ 1 ∷ 3 ∷ [])) (all 10)
+    ∷ answer (spans (1 ∷ 65535 ∷ 1 ∷ 65535 ∷ [])) (all 10)
+    ∷ answer (spans (0 ∷ 0 ∷ 0 ∷ 0 ∷ [])) (all 10)
+    -- 10: node 4 of T with low 0, low above high, high past the root's; past 2n nothing is looked at
+    ∷ answer (node4 0 2 []) (all 10)
+    ∷ answer (node4 3 2 []) (all 10)
+    ∷ answer (node4 2 5 []) (all 10)
+    ∷ answer (node4 2 2 (5 ∷ 0 ∷ [])) good
+    ∷ []
+
+-- whether a desk is sound; behind T's table the interval of node 3 stands again, so that a cover 10 is not wrong by its interval
+abbrev pub sound : Desk → ℕ
+sound d = one (soundDesk (lent 10 (intervalsT ++ (1 ∷ 1 ∷ [])) T 11) d)
+
+-- 6 or 7 last in arrival order, for node 3, which 3 reads
+abbrev pub last : Desk → ℕ → Mode → Desk
+last d party mode = list (seat d party (Waiting (lock mode 3 1 1))) party
+
+-- DESKS, each made wrong in one way, and some next to them that are sound; the steps there; what is left in buffers; grants
+unfoldable pub desks : List Row
+desks =
+    -- the desk made by hand is what the four steps make, and is sound
+    are (deskNumbers stepped) (deskNumbers four)
+    ∷ is (sound four) 1
+    -- listed twice, over 31, out, holding
+    ∷ is (sound (list four 2)) 0
+    ∷ is (sound (list four 4)) 0
+    ∷ is (sound (list four 32)) 0
+    ∷ is (sound (list four 255)) 0
+    ∷ is (sound (list four 5)) 0
+    ∷ is (sound (list four 3)) 0
+    -- waiting and not listed; more than the list has places for
+    ∷ is (sound (counting four 1)) 0
+    ∷ is (sound (counting four 0)) 0
+    ∷ is (sound (counting four 33)) 0
+    ∷ is (sound (counting four 18446744073709551615)) 0
+    ∷ is (sound (counting four 4294967298)) 0
+    -- a holder's cover not below n, or with another interval
+    ∷ is (sound (seat four 3 (Holding (lock Reading 10 1 1)))) 0
+    ∷ is (sound (seat four 3 (Holding (lock Reading 65535 1 1)))) 0
+    ∷ is (sound (seat four 3 (Holding (lock Reading 3 1 2)))) 0
+    ∷ is (sound (seat four 3 (Holding (lock Reading 4 1 2)))) 0
+    ∷ is (sound (seat four 3 (Holding (lock Reading 3 0 1)))) 0
+    -- the same of a waiter's
+    ∷ is (sound (seat four 4 (Waiting (lock Writing 0 1 4)))) 1
+    ∷ is (sound (seat four 4 (Waiting (lock Writing 10 1 1)))) 0
+    ∷ is (sound (seat four 4 (Waiting (lock Writing 0 1 3)))) 0
+    ∷ is (sound (seat four 4 (Waiting (lock Writing 1 1 4)))) 0
+    -- holders that conflict: two readers do not; a writer with a reader, on one node and on two; two writers
+    ∷ is (sound (seat four 5 (Holding (lock Reading 3 1 1)))) 1
+    ∷ is (sound (seat four 0 (Holding (lock Writing 3 1 1)))) 0
+    ∷ is (sound (seat four 31 (Holding (lock Writing 3 1 1)))) 0
+    ∷ is (sound (seat four 5 (Holding (lock Reading 2 3 4)))) 0
+    ∷ is (sound (seat four 5 (Holding (lock Writing 9 3 3)))) 0
+    -- waiters that conflict with nobody before them, and some that do
+    ∷ is (sound (last four 6 Reading)) 0
+    ∷ is (sound (last (last four 6 Reading) 7 Writing)) 0
+    ∷ is (sound (last (last four 7 Writing) 6 Reading)) 1
+    ∷ is (sound (last four 6 Writing)) 1
+    ∷ is (sound (last freshDesk 6 Writing)) 0
+    -- what the steps answer on an unsound desk, and on one with another waiter; 10 before 11 to 17
+    ∷ answer (allFour tableT (counting four 1)) (all 10)
+    ∷ answer (allFour tableT (seat four 4 (Waiting (lock Writing 0 1 4)))) (waits ∷ value 100 ∷ stored ∷ left (2 ∷ []) ∷ [])
+    ∷ answer (allFour tableT (seat four 5 (Holding (lock Reading 3 1 1)))) (refused 12 ∷ value 100 ∷ stored ∷ left (2 ∷ 4 ∷ []) ∷ [])
+    ∷ answer (enters (counting four 1) 32 (3 ∷ []) 1) (refused 10 ∷ [])
+    ∷ answer (enters (counting four 1) 1 [] 0) (refused 10 ∷ [])
+    ∷ answer (gets 10 (counting four 1) 5 9) (refused 10 ∷ [])
+    ∷ answer (gets 10 (counting four 1) 4 9) (refused 10 ∷ [])
+    ∷ answer (puts 10 (counting four 1) 3 10) (refused 10 ∷ [])
+    ∷ answer (puts 10 (counting four 1) 3 3) (refused 10 ∷ [])
+    ∷ answer (leaves 32 (counting four 1) 32) (refused 10 ∷ [])
+    ∷ answer (leaves 32 (counting four 1) 5) (refused 10 ∷ [])
+    -- what is left of 34 bytes of 170 and of ten values of 100: two bytes and one value are written, none where the step is refused
+    ∷ are ((leaveStep tableT four 1 (replicate 34 170)) .list) (2 ∷ 4 ∷ replicate 32 170)
+    ∷ are ((leaveStep tableT four 5 (replicate 34 170)) .list) (replicate 34 170)
+    ∷ are ((putStep tableT four 1 9 77 (replicate 10 100)) .values) (replicate 9 100 ++ (77 ∷ []))
+    ∷ are ((putStep tableT four 3 3 1 (replicate 10 100)) .values) (replicate 10 100)
+    -- grants after an enter that is granted, a leave that grants two, an enter that waits, a leave that grants nobody
+    ∷ is ((enterStep tableT (granting freshDesk 4294967293) 0 Writing (3 ∷ []) 1) .desk .grants) 4294967294
+    ∷ is ((enterStep tableT (granting freshDesk 4294967294) 0 Writing (3 ∷ []) 1) .desk .grants) 4294967295
+    ∷ is ((enterStep tableT (granting freshDesk 4294967295) 0 Writing (3 ∷ []) 1) .desk .grants) 4294967295
+    ∷ is ((leaveStep tableT (granting four 4294967292) 1 (replicate 32 0)) .desk .grants) 4294967294
+    ∷ is ((leaveStep tableT (granting four 4294967293) 1 (replicate 32 0)) .desk .grants) 4294967295
+    ∷ is ((leaveStep tableT (granting four 4294967294) 1 (replicate 32 0)) .desk .grants) 4294967295
+    ∷ is ((leaveStep tableT (granting four 4294967295) 1 (replicate 32 0)) .desk .grants) 4294967295
+    ∷ is ((enterStep tableT (granting four 4294967294) 5 Writing (0 ∷ []) 1) .desk .grants) 4294967294
+    ∷ is ((leaveStep tableT (granting four 4294967294) 3 (replicate 32 0)) .desk .grants) 4294967294
+    ∷ is ((enterStep tableT (granting four 4294967295) 5 Writing (0 ∷ []) 1) .desk .grants) 4294967295
+    ∷ is ((leaveStep tableT (granting four 4294967295) 3 (replicate 32 0)) .desk .grants) 4294967295
+    ∷ []

@@ -1,0 +1,45 @@
+use Rattle.hierarchy.specs.Hierarchy.{edgesOf}
+use Rattle.lists.specs.Lists.{oneIf, zeros}
+use Rattle.lists.proofs.Passes.{went-less}
+use Rattle.hierarchy.proofs.Spreads.{Reaching, reaching-start, reaching-more, reaching-end}
+use Rattle.hierarchy.proofs.spread_all.Statement.{statement}
+use Rattle.hierarchy.proofs.spread_all.Tie as tie
+
+abbrev Inv-loop : tie.InvT-loop
+Inv-loop edges count flags₀ on₀ flags on = Reaching (edgesOf edges count) flags₀ on flags
+
+abbrev μ-loop : tie.MeasureT-loop
+μ-loop edges count flags₀ on₀ flags on = oneIf on (zeros flags)
+
+loop-holds : tie.Need-loop-holds Inv-loop μ-loop
+loop-holds c = reaching-start _ _ (c .before .before .pre)
+
+spread-once-requires : tie.Need-spread-once-requires Inv-loop μ-loop
+spread-once-requires c κs = c .before .before .loop .inv .bits
+
+loop-less : tie.Need-loop-less Inv-loop μ-loop
+loop-less c = let o = c .before .before .spread-once in
+    went-less zeros _ (o .result) _ (o .last .1 .1 .0) (c .before .before .before .before .loop-test .taken) (o .ensures .1)
+
+loop-again : tie.Need-loop-again Inv-loop μ-loop
+loop-again c = let o = c .before .before .spread-once in
+    reaching-more _ _ _ (o .result) _ (o .last .1 .1 .0) (c .before .before .before .before .before .loop .inv) (o .ensures .0) (o .ensures .1)
+
+same-length : tie.Need-same-length Inv-loop μ-loop
+same-length c = c .before .loop .inv .long
+
+returns : tie.Need-returns Inv-loop μ-loop
+returns c = reaching-end _ _ _ _ (c .before .loop .inv) (c .loop-test .left)
+
+pub spread-all-spec : {M : Type 1} → statement M
+spread-all-spec =
+    tie.close
+    (tie.spec
+    Inv-loop
+    μ-loop
+    loop-holds
+    spread-once-requires
+    loop-less
+    loop-again
+    same-length
+    returns)

@@ -1,0 +1,21 @@
+-- Terms of the contracts of private functions only: no definition of the paper is here. Assumes nothing.
+use mathlib.Core.Bool.{Bool, _&&_}
+use mathlib.Core.List.{List}
+use Prim.Native.Nat.{ℕ, _+_, _*_, _<_, _≤_}
+use lib.Dec.{eqb, ltb}
+use lib.ListN.{length, getD}
+use Rattle.hierarchy.specs.Hierarchy.{Edge, edgesOf}
+use Rattle.hierarchy.specs.declared.Ends.{Ends}
+
+-- the ends of edge e of a table
+abbrev pub endsAt : List ℕ → ℕ → Ends
+endsAt edges e = record { parent = getD edges (2 * e) 0; child = getD edges (2 * e + 1) 0 }
+
+-- what a loop over an edge table asks: the table has all its edges, and their ends are below n
+pub record Edges (n count : ℕ) (edges : List ℕ) : Type 0 where
+  pub table : 2 * count ≤ length edges
+  pub below : (parent child : ℕ) → Edge (edgesOf edges count) parent child → (parent < n) × (child < n)
+
+-- a node is among the flags, and has none
+abbrev pub unflagged : List ℕ → ℕ → Bool
+unflagged flags node = ltb node (length flags) && eqb (getD flags node 0) 0

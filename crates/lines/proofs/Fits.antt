@@ -1,0 +1,131 @@
+-- THE LISTING OF A FILE FITS ITS ROOM: 160 bytes for each of 3,968 steps and the last line. Assumes nothing.
+use mathlib.Core.Path.{_≡_, refl}
+use mathlib.Core.Bool.{Bool, true, false}
+use mathlib.Core.List.{List, [], _∷_, _++_}
+use mathlib.Core.Option.{Option, none, some}
+use Prim.Native.Nat.{ℕ, zero, suc, _+_, _*_, _/_, _≤_, _<_}
+use native.Mathlib.Omega.{arith}
+use lib.Dec.{leb, ltb}
+use borrow.Author.Tests.{ltb-true, ltb-false}
+use lib.ListN.{length, take, drop, replicate, length-append, length-replicate, getD-replicate, List·getD-eq-default}
+use Rattle.lists.proofs.Loops.{keep-few}
+use Rattle.lists.specs.Lists.{every, keptIf, keep, Below}
+use Rattle.lists.specs.Answer.{done, refused, refusal}
+use Rattle.hierarchy.specs.Hierarchy.{hierarchyChecks}
+use Rattle.lists.proofs.Bools.{bool}
+use Rattle.blocks.specs.Record.{kindOf}
+use Rattle.blocks.specs.Block.{countIn, recordsIn}
+use Rattle.blocks.specs.File.{recordsOf, wholeBlocks, fileRecords, fileChecks}
+use Rattle.block_laws.proofs.Pieces.{bytes-take, bytes-drop}
+use Rattle.parties.specs.declared.Entry.{Entry}
+use Rattle.desk.specs.declared.Desk.{Desk}
+use Rattle.locks.specs.Lent.{Hierarchy}
+use Rattle.runs.specs.Run.{State, Ran, alsoRan, run}
+use Rattle.replay.specs.Replay.{StepAnswer, answerIn, answersOf, eachRecord, recordList, stepRecords, sizeOf, edgeTable, edgeCountOf, builtOf, startOf, perform, performAll, isHolding, holdersAt, fileRun, runUnless, runRecords, fileUnless, runFile}
+use Rattle.replay.proofs.Records.{records-length, count-most}
+use Rattle.opening.proofs.Opens.{records-whole}
+use Rattle.texts.specs.Text.{decimal, space, newline, answerText, refusedWord, endWord}
+use Rattle.texts.specs.Lines.{stepLine, stepLines, endLine, listing}
+use Rattle.lines.proofs.Bounds.{below-append, digits-most, Short, AtMost, refusal-low, Bounded, Fine, perform-fine, fresh-bounded}
+
+-- A LINE has at most 160 bytes
+line-most : (k : ℕ) → k < 18446744073709551616 → (a : StepAnswer) → Short a → length (stepLine k a) ≤ 160
+line-most k h a s =
+    omega (arith, length-append (decimal k ++ space) (answerText a ++ newline), length-append (decimal k) space, length-append (answerText a) newline, digits-most k h)
+
+-- RECORDS of bytes
+abbrev pub AllBytes : List (List ℕ) → Type 0
+AllBytes [] = Unit {0}
+AllBytes (r ∷ rs) = Below 256 r × AllBytes rs
+
+-- the steps' lines, and what the steps leave
+pub steps-most : (rs : List (List ℕ)) (s : State) (k : ℕ) → k + length rs ≤ 18446744073709551615 → AllBytes rs → Fine s
+    → Fine ((performAll s rs) .state) × (length (stepLines k (answersOf (performAll s rs))) ≤ 160 * length rs)
+unfolding run alsoRan stepLines
+steps-most [] s k h b f = (f, omega arith)
+steps-most (r ∷ rs) s k h b f =
+    let one = perform-fine s r (b .0) f in
+    let more = steps-most rs ((perform s r) .state) (suc k) (omega arith) (b .1) (one .0) in
+    let line = line-most k (omega arith) (answerIn ((perform s r) .event)) (one .1) in
+    (more .0, omega (arith, length-append (stepLine k (answerIn ((perform s r) .event))) (stepLines (suc k) (answersOf (performAll ((perform s r) .state) rs))), line, more .1))
+
+-- A PART of bytes is bytes: records of a file, and its steps
+pub each-bytes : (k : ℕ) (bytes : List ℕ) → Below 256 bytes → AllBytes (eachRecord k bytes)
+unfolding eachRecord
+each-bytes zero bytes b = tt
+each-bytes (suc k) bytes b = (bytes-take 16 bytes b, each-bytes k (drop 16 bytes) (bytes-drop 16 bytes b))
+
+pub steps-bytes : (rs : List (List ℕ)) → AllBytes rs → AllBytes (stepRecords rs)
+unfolding keep
+steps-bytes [] b = tt
+steps-bytes (r ∷ rs) b = by (leb 3 (kindOf r)) (steps-bytes rs (b .1))
+  where
+    by : (t : Bool) → AllBytes (stepRecords rs) → AllBytes (keptIf t r (stepRecords rs))
+    by true more = (b .0, more)
+    by false more = more
+
+records-bytes : (k : ℕ) (s : List ℕ) → Below 256 s → Below 256 (recordsOf k s)
+unfolding recordsOf recordsIn
+records-bytes zero s b = λ i. omega arith
+records-bytes (suc k) s b =
+    below-append 256 (recordsIn (take 512 s)) (recordsOf k (drop 512 s)) (bytes-take (16 * countIn (take 512 s)) (drop 8 (take 512 s)) (bytes-drop 8 (take 512 s) (bytes-take 512 s b)))
+    (records-bytes k (drop 512 s) (bytes-drop 512 s b))
+
+-- THE LAST LINE
+end-most : (h w g : ℕ) → h < 18446744073709551616 → w < 18446744073709551616 → g < 18446744073709551616 → length (endLine h w g) ≤ 160
+end-most h w g a b c =
+    omega (
+      arith,
+      length-append ((endWord ++ decimal h) ++ (space ++ decimal w)) ((space ++ decimal g) ++ newline),
+      length-append (endWord ++ decimal h) (space ++ decimal w),
+      length-append (space ++ decimal g) newline,
+      digits-most h a,
+      digits-most w b,
+      digits-most g c,
+    )
+
+-- of a desk whose numbers are bounded
+pub desk-end-most : (d : Desk) → Bounded d → length (endLine (holdersAt d) (d .waiting) (d .grants)) ≤ 160
+desk-end-most d b =
+    end-most (holdersAt d) (d .waiting) (d .grants)
+    (omega (arith, count-most (λ (e : Entry). isHolding (e .stage)) (d .entries), b .entries)) (omega (arith, b .waiting)) (omega (arith, b .grants))
+
+-- A RUN over records of bytes starts with a fresh desk and zeros
+pub start-fine : (H : Hierarchy) (n : ℕ) → Fine (startOf H n)
+start-fine H n = record { desk = fresh-bounded; values = zeros-below }
+  where
+    zeros-below : Below 18446744073709551616 (replicate n 0)
+    zeros-below i =
+        bool (ltb i n)
+        (λ e. omega (arith, getD-replicate {A = ℕ} n i 0 0 (ltb-true i n e)))
+        (λ e. omega (arith, List·getD-eq-default {A = ℕ} (replicate n 0) 0 {n = i} (omega (arith, ltb-false i n e, length-replicate {A = ℕ} n 0))))
+
+run-most : (H : Hierarchy) (n : ℕ) (rs : List (List ℕ)) → length rs ≤ 3968 → AllBytes rs → length (listing (done (fileRun (performAll (startOf H n) (stepRecords rs))))) ≤ 635040
+run-most H n rs few b =
+    let whole : Ran = performAll (startOf H n) (stepRecords rs) in
+    let steps = keep-few (λ (r : List ℕ). leb 3 (kindOf r)) rs in
+    let all = steps-most (stepRecords rs) (startOf H n) 1 (omega (arith, steps, few)) (steps-bytes rs b) (start-fine H n) in
+    let d : Desk = whole .state .desk in
+    omega (arith, length-append (stepLines 1 (answersOf whole)) (endLine (holdersAt d) (d .waiting) (d .grants)), all .1, desk-end-most d (all .0 .desk), steps, few)
+
+-- REFUSED, or run
+refused-most : (k : ℕ) → k ≤ 99 → length (listing (refused k)) ≤ 635040
+refused-most k h = omega (arith, length-append (refusedWord ++ decimal k) newline, digits-most k (omega arith))
+
+records-most : (rs : List (List ℕ)) → length rs ≤ 3968 → AllBytes rs → length (listing (runRecords rs)) ≤ 635040
+unfolding runRecords every
+records-most rs few b = by (refusal (hierarchyChecks (sizeOf rs) (edgeTable rs) (edgeCountOf rs))) (refusal-low _ refl)
+  where
+    by : (o : Option ℕ) → AtMost o → length (listing (runUnless o rs)) ≤ 635040
+    by (some k) low = refused-most k low
+    by none low = run-most (builtOf rs) (sizeOf rs) rs few b
+
+pub listing-most : (file : List ℕ) → Below 256 file → length (listing (runFile file)) ≤ 635040
+unfolding runFile every
+listing-most file b = by (refusal (fileChecks file)) refl (refusal-low _ refl)
+  where
+    by : (o : Option ℕ) → refusal (fileChecks file) ≡ o → AtMost o → length (listing (fileUnless o file)) ≤ 635040
+    by (some k) e low = refused-most k low
+    by none e low =
+        records-most (recordList (fileRecords file)) (omega (arith, records-length (fileRecords file), (records-whole file e) .1))
+        (each-bytes (length (fileRecords file) / 16) (fileRecords file) (records-bytes (wholeBlocks file) file b))

@@ -1,0 +1,9 @@
+-- What the proofs of every layer use.
+pub mod Bools
+pub mod Refusals
+pub mod Members
+pub mod Marks
+pub mod Passes
+pub mod Loops
+pub mod Bounded
+pub mod Distinct

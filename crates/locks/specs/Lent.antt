@@ -1,0 +1,71 @@
+-- The hierarchy as a step is lent it, and what is asked of it: its tables, a call's names, a lock's cover. Assumes nothing.
+use mathlib.Core.List.{List, []}
+use mathlib.Core.Bool.{Bool, false, not, _&&_, _||_}
+use Prim.Native.Nat.{ℕ, _*_}
+use lib.Dec.{eqb, leb, ltb}
+use lib.ListN.{length, take}
+use Rattle.lists.specs.Lists.{any}
+use Rattle.covers.specs.Cover.{lowAt, highAt, coverOf}
+use Rattle.locks.specs.declared.Mode.{Mode}
+use Rattle.locks.specs.declared.Lock.{Lock}
+use Rattle.locks.specs.declared.Stage.{Stage}
+use Rattle.locks.specs.declared.Stage.the-variants.{Out, Waiting, Holding}
+use Rattle.locks.specs.Locks.{realInterval}
+
+-- every step is lent the intervals and the edges, with n and the edge count: low and high in turn, parent and child in turn
+pub record Hierarchy : Type 0 where
+  pub n : ℕ
+  pub intervals : List ℕ
+  pub edges : List ℕ
+  pub edgeCount : ℕ
+
+-- the hierarchy of what a method is given
+abbrev pub lent : ℕ → List ℕ → List ℕ → ℕ → Hierarchy
+lent n intervals edges edgeCount = record { n = n; intervals = intervals; edges = edges; edgeCount = edgeCount }
+
+-- the same where only n and the intervals matter
+abbrev pub spanned : ℕ → List ℕ → Hierarchy
+spanned n intervals = lent n intervals [] 0
+
+-- low of a node
+abbrev pub lowIn : Hierarchy → ℕ → ℕ
+lowIn H node = lowAt (H .intervals) node
+
+-- high of a node
+abbrev pub highIn : Hierarchy → ℕ → ℕ
+highIn H node = highAt (H .intervals) node
+
+-- the cover of a call that names these nodes
+abbrev pub coverIn : Hierarchy → List ℕ → ℕ
+coverIn H names = coverOf (H .n) (H .intervals) names
+
+-- 1: a lent buffer is shorter than needed, which is 2n interval places and two numbers an edge
+abbrev pub tablesShort : Hierarchy → Bool
+tablesShort H = ltb (length (H .intervals)) (2 * H .n) || ltb (length (H .edges)) (2 * H .edgeCount)
+
+-- 10: a node's interval not within 1 to 256, low above high or not inside node 0's
+abbrev pub intervalWrong : Hierarchy → ℕ → Bool
+intervalWrong H node =
+    not (realInterval (lowIn H node) (highIn H node)) || ltb (lowIn H node) (lowIn H 0) || ltb (highIn H 0) (highIn H node)
+
+-- 15: name count not 1 to 8, or node not below n
+abbrev pub namesWrong : ℕ → List ℕ → ℕ → Bool
+namesWrong n names nameCount = not (leb 1 nameCount && leb nameCount 8) || any (λ node. not (ltb node n)) (take nameCount names)
+
+-- a hold consists of its party, mode, cover and the cover's interval
+abbrev pub lockOn : Hierarchy → Mode → ℕ → Lock
+lockOn H mode cover = record { mode = mode; cover = cover; low = lowIn H cover; high = highIn H cover }
+
+-- a cover is below n and has the hold's interval, of one hold
+abbrev pub coverRight : Hierarchy → Lock → Bool
+coverRight H l = ltb (l .cover) (H .n) && eqb (lowIn H (l .cover)) (l .low) && eqb (highIn H (l .cover)) (l .high)
+
+-- the node's interval lies inside the hold's
+abbrev pub insideLock : Hierarchy → ℕ → Lock → Bool
+insideLock H node l = leb (l .low) (lowIn H node) && leb (highIn H node) (l .high)
+
+-- 16 is given where this is false: of what the party holds
+abbrev pub insideHold : Hierarchy → ℕ → Stage → Bool
+insideHold H node Out = false
+insideHold H node (Waiting l) = false
+insideHold H node (Holding l) = insideLock H node l

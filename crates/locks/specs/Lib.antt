@@ -1,0 +1,4 @@
+pub mod Locks
+pub mod Stages
+pub mod Lent
+pub mod Inner

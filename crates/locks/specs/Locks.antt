@@ -1,0 +1,54 @@
+-- Locks (the paper's holds and waiting calls), and their conflict. Assumes nothing.
+use mathlib.Core.Bool.{Bool, true, false, not, cond, _&&_, _||_}
+use Prim.Native.Nat.{ℕ}
+use lib.Dec.{eqb, leb}
+use Rattle.lists.specs.Lists.{one}
+use Rattle.locks.specs.declared.Mode.{Mode}
+use Rattle.locks.specs.declared.Mode.the-variants.{Reading, Writing}
+use Rattle.locks.specs.declared.Lock.{Lock}
+
+-- both are reading
+abbrev pub bothReading : Mode → Mode → Bool
+bothReading Reading Reading = true
+bothReading Reading Writing = false
+bothReading Writing b = false
+
+-- the intervals share a number
+abbrev pub share : Lock → Lock → Bool
+share a b = leb (a .low) (b .high) && leb (b .low) (a .high)
+
+-- two holds *conflict* if their intervals share a number and not both are reading
+abbrev pub conflict : Lock → Lock → Bool
+conflict a b = share a b && not (bothReading (a .mode) (b .mode))
+
+-- an interval lies in 1 to 256, low at most high
+abbrev pub realInterval : ℕ → ℕ → Bool
+realInterval low high = leb 1 low && leb low high && leb high 256
+
+-- THE CONFLICT CALL of the office's C host, on numbers. A mode is 1, reading, or 2, writing
+abbrev pub isMode : ℕ → Bool
+isMode m = eqb m 1 || eqb m 2
+
+-- the mode of a number
+abbrev pub modeNumbered : ℕ → Mode
+modeNumbered m = cond (eqb m 1) Reading Writing
+
+-- the number of a mode
+abbrev pub modeNumber : Mode → ℕ
+modeNumber Reading = 1
+modeNumber Writing = 2
+
+-- the hold of mode, low and high; its cover plays no part
+abbrev pub lockNumbered : ℕ → ℕ → ℕ → Lock
+lockNumbered m low high = record { mode = modeNumbered m; cover = 0; low = low; high = high }
+
+-- a mode of 1 or 2, and an interval in 1 to 256 with low at most high
+abbrev pub isHold : ℕ → ℕ → ℕ → Bool
+isHold m low high = isMode m && realInterval low high
+
+-- 10 for a mode other than 1 or 2 or an interval outside 1 to 256 or with low above high; 0 for no, 1 for yes
+abbrev pub conflictCall : ℕ → ℕ → ℕ → ℕ → ℕ → ℕ → ℕ
+conflictCall m low high m′ low′ high′ =
+    cond (isHold m low high && isHold m′ low′ high′)
+    (one (conflict (lockNumbered m low high) (lockNumbered m′ low′ high′)))
+    10

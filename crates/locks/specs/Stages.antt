@@ -1,0 +1,61 @@
+-- The stages of a party, and what is asked of one. Assumes nothing.
+use mathlib.Core.Bool.{Bool, true, false}
+use Rattle.locks.specs.declared.Mode.{Mode}
+use Rattle.locks.specs.declared.Mode.the-variants.{Reading, Writing}
+use Rattle.locks.specs.declared.Lock.{Lock}
+use Rattle.locks.specs.declared.Stage.{Stage}
+use Rattle.locks.specs.declared.Stage.the-variants.{Out, Waiting, Holding}
+use Rattle.locks.specs.Locks.{conflict}
+
+-- the party is out
+abbrev pub isOut : Stage → Bool
+isOut Out = true
+isOut (Waiting l) = false
+isOut (Holding l) = false
+
+-- the party is waiting
+abbrev pub isWaiting : Stage → Bool
+isWaiting Out = false
+isWaiting (Waiting l) = true
+isWaiting (Holding l) = false
+
+-- CONFLICTS of a lock. With what a party holds
+abbrev pub againstHolder : Lock → Stage → Bool
+againstHolder l Out = false
+againstHolder l (Waiting w) = false
+againstHolder l (Holding h) = conflict h l
+
+-- with what a party waits for
+abbrev pub againstWaiter : Lock → Stage → Bool
+againstWaiter l Out = false
+againstWaiter l (Waiting w) = conflict w l
+againstWaiter l (Holding h) = false
+
+-- two parties hold, and their holds conflict
+abbrev pub holdersConflict : Stage → Stage → Bool
+holdersConflict Out s = false
+holdersConflict (Waiting l) s = false
+holdersConflict (Holding l) s = againstHolder l s
+
+-- the test holds of the lock that a party holds or waits for
+abbrev pub ofLock : (Lock → Bool) → Stage → Bool
+ofLock p Out = true
+ofLock p (Waiting l) = p l
+ofLock p (Holding l) = p l
+
+-- the mode is reading
+abbrev pub isReading : Mode → Bool
+isReading Reading = true
+isReading Writing = false
+
+-- 17: put in a reading visit
+abbrev pub readsOnly : Stage → Bool
+readsOnly Out = false
+readsOnly (Waiting l) = false
+readsOnly (Holding l) = isReading (l .mode)
+
+-- what a waiter waits for, held
+abbrev pub held : Stage → Stage
+held Out = Out
+held (Waiting l) = Holding l
+held (Holding l) = Holding l

@@ -1,0 +1,391 @@
+// Locks: modes, holds and waiting calls, their conflict, the hierarchy as a step is lent it, and the conflict call for the C host.
+ghost use mathlib.Core.Path.{_≡_};
+ghost use mathlib.Core.Bool.{true, not, _||_};
+ghost use lib.Dec.{ltb};
+ghost use Rattle.lists.specs.Lists.{anyBelow, any};
+ghost use Prim.Native.Nat.{_*_, _≤_};
+ghost use lib.ListN.{length, take};
+ghost use Rattle.locks.specs.Locks.{bothReading, conflict as conflicting, realInterval, isMode, isHold, modeNumbered, modeNumber, lockNumbered, conflictCall};
+ghost use Rattle.locks.specs.Stages.{held, isOut, isWaiting, againstHolder, againstWaiter, ofLock, isReading, readsOnly};
+ghost use Rattle.locks.specs.Lent.{lent, spanned, tablesShort, intervalWrong, namesWrong, lockOn, coverRight, insideLock, insideHold};
+ghost use Rattle.locks.specs.Inner.{outside};
+
+// A visit is reading or writing.
+pub enum Mode {
+    Reading,
+    Writing,
+}
+
+// A hold, or a waiting call: mode, cover and the cover's interval. Its party is the place of its entry.
+pub struct Lock {
+    pub mode: Mode,
+    pub cover: u16,
+    pub low: u16,
+    pub high: u16,
+}
+
+// A party is out, waiting or holding.
+pub enum Stage {
+    Out,
+    Waiting(Lock),
+    Holding(Lock),
+}
+
+// Whether both are reading.
+fn both_reading(a: Mode, b: Mode) -> bool
+    ensures { λ r. ⌜ r ≡ bothReading a b ⌝ }
+{
+    match a {
+        Mode::Writing => false,
+        Mode::Reading => match b {
+            Mode::Writing => false,
+            Mode::Reading => true,
+        },
+    }
+}
+
+// Whether two holds conflict.
+pub fn conflict(a: Lock, b: Lock) -> bool
+    ensures { λ r. ⌜ r ≡ conflicting a b ⌝ }
+{
+    if b.high < a.low {
+        return false;
+    }
+    if a.high < b.low {
+        return false;
+    }
+    let m = a.mode;
+    let k = b.mode;
+    !both_reading(m, k)
+}
+
+// Whether a lock conflicts with what a party at this stage holds.
+pub fn against_holder(l: Lock, s: Stage) -> bool
+    ensures { λ r. ⌜ r ≡ againstHolder l s ⌝ }
+{
+    match s {
+        Stage::Out => false,
+        Stage::Waiting(_) => false,
+        Stage::Holding(h) => conflict(h, l),
+    }
+}
+
+// Whether a lock conflicts with what a party at this stage waits for.
+pub fn against_waiter(l: Lock, s: Stage) -> bool
+    ensures { λ r. ⌜ r ≡ againstWaiter l s ⌝ }
+{
+    match s {
+        Stage::Out => false,
+        Stage::Waiting(w) => conflict(w, l),
+        Stage::Holding(_) => false,
+    }
+}
+
+// Whether a party at this stage is out.
+pub fn is_out(s: Stage) -> bool
+    ensures { λ r. ⌜ r ≡ isOut s ⌝ }
+{
+    match s {
+        Stage::Out => true,
+        Stage::Waiting(_) => false,
+        Stage::Holding(_) => false,
+    }
+}
+
+// Whether a party at this stage is waiting.
+pub fn is_waiting(s: Stage) -> bool
+    ensures { λ r. ⌜ r ≡ isWaiting s ⌝ }
+{
+    match s {
+        Stage::Out => false,
+        Stage::Waiting(_) => true,
+        Stage::Holding(_) => false,
+    }
+}
+
+// Whether a lock is for reading.
+fn is_reading(m: Mode) -> bool
+    ensures { λ r. ⌜ r ≡ isReading m ⌝ }
+{
+    match m {
+        Mode::Reading => true,
+        Mode::Writing => false,
+    }
+}
+
+// Whether a party at this stage holds for reading.
+pub fn reads_only(s: Stage) -> bool
+    ensures { λ r. ⌜ r ≡ readsOnly s ⌝ }
+{
+    match s {
+        Stage::Out => false,
+        Stage::Waiting(_) => false,
+        Stage::Holding(l) => {
+            let m = l.mode;
+            is_reading(m)
+        }
+    }
+}
+
+// Whether a lock's cover is below n and has the lock's interval.
+fn lock_right(n: usize, intervals: &[u16], l: Lock) -> bool
+    ensures { λ r. ⌜ r ≡ coverRight (spanned n (now (intervals .entry))) l ⌝ }
+{
+    let c = l.cover as usize;
+    if n <= c {
+        return false;
+    }
+    let i = covers::interval_at(intervals, c);
+    if i.low != l.low {
+        return false;
+    }
+    i.high == l.high
+}
+
+// Whether what a party at this stage holds or waits for has a right cover.
+pub fn stage_right(n: usize, intervals: &[u16], s: Stage) -> bool
+    ensures { λ r. ⌜ r ≡ ofLock (coverRight (spanned n (now (intervals .entry)))) s ⌝ }
+{
+    match s {
+        Stage::Out => true,
+        Stage::Waiting(l) => lock_right(n, intervals, l),
+        Stage::Holding(l) => lock_right(n, intervals, l),
+    }
+}
+
+// Whether the tables are shorter than n and the edge count say.
+pub fn tables_short(n: usize, intervals: &[u16], edges: &[u16], edge_count: usize) -> bool
+    ensures { λ r. ⌜ r ≡ tablesShort (lent n (now (intervals .entry)) (now (edges .entry)) «edge_count») ⌝ }
+{
+    if intervals.len() / 2 < n {
+        return true;
+    }
+    edges.len() / 2 < edge_count
+}
+
+// Whether an interval is not real or not inside another, that of node 0. All five tests are made, so that many are made at once.
+fn interval_wrong(low: u16, high: u16, least: u16, most: u16) -> bool
+    ensures { λ r. ⌜ r ≡ outside low high least most ⌝ }
+{
+    (low < 1) | (high < low) | (256 < high) | (low < least) | (most < high)
+}
+
+// Whether the interval of some node below n is wrong.
+fn some_interval_wrong(n: usize, intervals: &[u16]) -> bool
+    requires { ⌜ 2 * n ≤ length (now intervals) ⌝ }
+    ensures { λ r. ⌜ r ≡ anyBelow n (intervalWrong (spanned n (now (intervals .entry)))) ⌝ }
+{
+    let root = covers::interval_at(intervals, 0);
+    let mut wrong = false;
+    let mut i = 0;
+    while i < n {
+        let low = intervals[2 * i];
+        let high = intervals[2 * i + 1];
+        wrong = wrong | interval_wrong(low, high, root.low, root.high);
+        i += 1;
+    }
+    wrong
+}
+
+// Whether the interval of some node below n is wrong. A table that is too short has no interval for the last of them, and 0 is no low.
+pub fn intervals_wrong(n: usize, intervals: &[u16]) -> bool
+    ensures { λ r. ⌜ r ≡ anyBelow n (intervalWrong (spanned n (now (intervals .entry)))) ⌝ }
+{
+    if intervals.len() / 2 < n {
+        return true;
+    }
+    some_interval_wrong(n, intervals)
+}
+
+// Whether one of the first names is not below n.
+fn some_name_wrong(n: usize, names: &[u16], name_count: usize) -> bool
+    requires { ⌜ «name_count» ≤ length (now names) ⌝ }
+    ensures { λ r. ⌜ r ≡ any (λ node. not (ltb node n)) (take «name_count» (now (names .entry))) ⌝ }
+{
+    let mut i = 0;
+    while i < name_count {
+        if n <= names[i] as usize {
+            return true;
+        }
+        i += 1;
+    }
+    false
+}
+
+// Whether the name count is not 1 to 8, or a name is not below n.
+pub fn names_wrong(n: usize, names: &[u16], name_count: usize) -> bool
+    ensures { λ r. ⌜ r ≡ namesWrong n (now (names .entry)) «name_count» ⌝ }
+{
+    if name_count < 1 {
+        return true;
+    }
+    if 8 < name_count {
+        return true;
+    }
+    if names.len() < name_count {
+        return some_name_wrong(n, names, names.len());
+    }
+    some_name_wrong(n, names, name_count)
+}
+
+// The lock of a mode on a cover.
+pub fn lock_on(intervals: &[u16], mode: Mode, cover: u16) -> Lock
+    ensures { λ r. ⌜ r ≡ lockOn (spanned 0 (now (intervals .entry))) mode cover ⌝ }
+{
+    let i = covers::interval_at(intervals, cover as usize);
+    Lock {
+        mode,
+        cover,
+        low: i.low,
+        high: i.high,
+    }
+}
+
+// Whether a node's interval lies inside that of a lock.
+fn inside_lock(intervals: &[u16], node: usize, l: Lock) -> bool
+    ensures { λ r. ⌜ r ≡ insideLock (spanned 0 (now (intervals .entry))) node l ⌝ }
+{
+    let i = covers::interval_at(intervals, node);
+    if i.low < l.low {
+        return false;
+    }
+    i.high <= l.high
+}
+
+// Whether a node's interval lies inside what a party at this stage holds.
+pub fn inside_hold(intervals: &[u16], node: usize, s: Stage) -> bool
+    ensures { λ r. ⌜ r ≡ insideHold (spanned 0 (now (intervals .entry))) node s ⌝ }
+{
+    match s {
+        Stage::Out => false,
+        Stage::Waiting(_) => false,
+        Stage::Holding(l) => inside_lock(intervals, node, l),
+    }
+}
+
+// The mode of a number: 1 reading, any other writing.
+pub fn mode_numbered(m: u32) -> Mode
+    ensures { λ r. ⌜ r ≡ modeNumbered m ⌝ }
+{
+    if m == 1 {
+        return Mode::Reading;
+    }
+    Mode::Writing
+}
+
+// Whether a number is a mode.
+fn is_mode(m: u32) -> bool
+    ensures { λ r. ⌜ r ≡ isMode m ⌝ }
+{
+    if m == 1 {
+        return true;
+    }
+    m == 2
+}
+
+// Whether an interval lies in 1 to 256, low at most high.
+fn real_interval(low: u32, high: u32) -> bool
+    ensures { λ r. ⌜ r ≡ realInterval low high ⌝ }
+{
+    if low < 1 {
+        return false;
+    }
+    if high < low {
+        return false;
+    }
+    high <= 256
+}
+
+// Whether mode, low and high are those of a hold.
+fn is_hold(m: u32, low: u32, high: u32) -> bool
+    ensures { λ r. ⌜ r ≡ isHold m low high ⌝ }
+{
+    if !is_mode(m) {
+        return false;
+    }
+    real_interval(low, high)
+}
+
+// The hold of mode, low and high.
+fn lock_numbered(m: u32, low: u32, high: u32) -> Lock
+    requires { ⌜ isHold m low high ≡ true ⌝ }
+    ensures { λ r. ⌜ r ≡ lockNumbered m low high ⌝ }
+{
+    let mode = mode_numbered(m);
+    Lock {
+        mode,
+        cover: 0,
+        low: low as u16,
+        high: high as u16,
+    }
+}
+
+// Whether two holds conflict, for the C host: 0 no, 1 yes, 10 for what is no hold.
+#[no_mangle]
+pub extern "C" fn hold_conflict(
+    mode: u32,
+    low: u32,
+    high: u32,
+    mode2: u32,
+    low2: u32,
+    high2: u32,
+) -> u32
+    ensures { λ r. ⌜ r ≡ conflictCall mode low high mode2 low2 high2 ⌝ }
+{
+    if !is_hold(mode, low, high) {
+        return 10;
+    }
+    if !is_hold(mode2, low2, high2) {
+        return 10;
+    }
+    let a = lock_numbered(mode, low, high);
+    let b = lock_numbered(mode2, low2, high2);
+    if conflict(a, b) {
+        return 1;
+    }
+    0
+}
+
+// Whether a lock conflicts with what a party at this stage holds or waits for.
+pub fn stands_against(l: Lock, here: Stage) -> bool
+    ensures { λ r. ⌜ r ≡ againstHolder l here || againstWaiter l here ⌝ }
+{
+    if against_holder(l, here) {
+        return true;
+    }
+    against_waiter(l, here)
+}
+
+// What a waiter waits for, held.
+pub fn hold(s: Stage) -> Stage
+    ensures { λ r. ⌜ r ≡ held s ⌝ }
+{
+    match s {
+        Stage::Out => Stage::Out,
+        Stage::Waiting(l) => Stage::Holding(l),
+        Stage::Holding(l) => Stage::Holding(l),
+    }
+}
+
+// The number of a mode.
+pub fn mode_number(m: Mode) -> u16
+    ensures { λ r. ⌜ r ≡ modeNumber m ⌝ }
+{
+    match m {
+        Mode::Reading => 1,
+        Mode::Writing => 2,
+    }
+}
+
+// The lock of mode, low and high.
+pub fn numbered(m: u16, low: u16, high: u16) -> Lock
+    ensures { λ r. ⌜ r ≡ lockNumbered m low high ⌝ }
+{
+    let mode = mode_numbered(m as u32);
+    Lock {
+        mode,
+        cover: 0,
+        low,
+        high,
+    }
+}

@@ -1,0 +1,5 @@
+-- What the proofs of several functions, and of the layers above, use.
+pub mod Stages
+pub mod Rows
+pub mod Clauses
+pub mod Sweeps

@@ -1,0 +1,96 @@
+-- Terms of the contracts of private functions, and of what structs hand back: no definition of the paper is here. Assumes nothing.
+use mathlib.Core.List.{List}
+use mathlib.Core.Bool.{Bool, false, not, cond, _&&_, _||_}
+use mathlib.Core.Path.{_≡_}
+use Prim.Native.Nat.{ℕ, _+_, _*_, _≤_}
+use lib.Dec.{leb, ltb}
+use lib.ListN.{getD, set}
+use Rattle.lists.specs.Lists.{allBelow, anyBelow}
+use Rattle.arrivals.specs.Arrivals.{Lists}
+use Rattle.locks.specs.declared.Lock.{Lock}
+use Rattle.locks.specs.declared.Stage.{Stage}
+use Rattle.locks.specs.declared.Stage.the-variants.{Out, Waiting, Holding}
+use Rattle.locks.specs.Locks.{conflict, lockNumbered, modeNumber}
+use Rattle.locks.specs.Stages.{isWaiting}
+use Rattle.locks.specs.Lent.{Hierarchy}
+use Rattle.parties.specs.declared.Entry.{Entry}
+use Rattle.parties.specs.declared.Swept.{Swept}
+use Rattle.parties.specs.declared.Holds.{Holds}
+use Rattle.parties.specs.Parties.{stageIn, meetsHolder, meetsWaiter}
+use Rattle.parties.specs.Sound.{isListed, coversRight, holdersApart}
+use Rattle.parties.specs.Sweeps.{Sweep}
+
+-- the place of a party's entry; that of party 0 for a party over 31
+abbrev pub placeOf : ℕ → ℕ
+placeOf party = cond (ltb party 32) party 0
+
+-- the stage of a party by what stands at its place
+abbrev pub seatedAt : ℕ → Stage → Stage
+seatedAt party stage = cond (ltb party 32) stage Out
+
+-- what a pass over the waiters hands back
+pub record Sweeps (s : Sweep) (r : Swept) : Type 0 where
+  pub entries : r .entries ≡ s .entries
+  pub stay : Lists (r .stay) (s .stay)
+  pub granted : Lists (r .granted) (s .granted)
+
+-- a party at this stage waits, and is granted on these entries, with these still waiting before it
+abbrev pub mayGo : List Entry → List ℕ → Stage → Bool
+mayGo entries stay Out = false
+mayGo entries stay (Waiting l) = not (meetsHolder entries l || meetsWaiter entries stay l)
+mayGo entries stay (Holding l) = false
+
+-- LOCKS AS NUMBERS: three numbers each, mode, low and high; a row of a table. The lock of a row; a cover plays no part in a conflict
+abbrev pub rowOf : List ℕ → ℕ → Lock
+rowOf rows k = lockNumbered (getD rows (3 * k) 0) (getD rows (3 * k + 1) 0) (getD rows (3 * k + 2) 0)
+
+-- the table with a lock in a row
+abbrev pub putRow : List ℕ → ℕ → Lock → List ℕ
+putRow rows k l = set (set (set rows (3 * k) (modeNumber (l .mode))) (3 * k + 1) (l .low)) (3 * k + 2) (l .high)
+
+-- a lock conflicts with one in the first rows
+abbrev pub meetsRow : List ℕ → ℕ → Lock → Bool
+meetsRow rows count l = anyBelow count (λ k. conflict (rowOf rows k) l)
+
+-- no two locks in the first rows conflict
+abbrev pub rowsApart : List ℕ → ℕ → Bool
+rowsApart rows count = allBelow count (λ k. not (meetsRow rows k (rowOf rows k)))
+
+-- the table with what a party at this stage holds in a row
+abbrev pub withHold : List ℕ → ℕ → Stage → List ℕ
+withHold rows k Out = rows
+withHold rows k (Waiting l) = rows
+withHold rows k (Holding l) = putRow rows k l
+
+-- the count of the rows after it
+abbrev pub afterHold : ℕ → Stage → ℕ
+afterHold k Out = k
+afterHold k (Waiting l) = k
+afterHold k (Holding l) = k + 1
+
+-- the table with what a party at this stage waits for in a row
+abbrev pub withCall : List ℕ → ℕ → Stage → List ℕ
+withCall rows k Out = rows
+withCall rows k (Waiting l) = putRow rows k l
+withCall rows k (Holding l) = rows
+
+-- a party at this stage waits, and conflicts with one of the holds or with one of the calls before it
+abbrev pub heldBy : (holds : List ℕ) (h : ℕ) (calls : List ℕ) (k : ℕ) → Stage → Bool
+heldBy holds h calls k Out = false
+heldBy holds h calls k (Waiting l) = meetsRow holds h l || meetsRow calls k l
+heldBy holds h calls k (Holding l) = false
+
+-- the rows say of the holders whom a lock meets, and whether they are apart
+pub record HoldsOf (entries : List Entry) (r : Holds) : Type 0 where
+  pub few : r .count ≤ 32
+  pub meets : (l : Lock) → meetsHolder entries l ≡ meetsRow (r .rows) (r .count) l
+  pub apart : holdersApart entries ≡ rowsApart (r .rows) (r .count)
+
+-- each that waits is listed, and all covers are right
+abbrev pub entriesRight : Hierarchy → List Entry → List ℕ → ℕ → Bool
+entriesRight H entries queue waiting = allBelow 32 (λ party. not (isWaiting (stageIn entries party)) || isListed queue waiting party) && coversRight H entries
+
+-- what one pass over the entries finds: a count over 32 where they are not right, else the holds of the holders
+pub record Gathered (H : Hierarchy) (entries : List Entry) (queue : List ℕ) (waiting : ℕ) (r : Holds) : Type 0 where
+  pub right : entriesRight H entries queue waiting ≡ leb (r .count) 32
+  pub holds : r .count ≤ 32 → HoldsOf entries r

@@ -1,0 +1,4 @@
+pub mod Parties
+pub mod Sound
+pub mod Sweeps
+pub mod Inner

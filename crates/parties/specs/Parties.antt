@@ -1,0 +1,31 @@
+-- The entries of the parties, and who conflicts with whom. Assumes nothing.
+use mathlib.Core.List.{List}
+use mathlib.Core.Bool.{Bool, not, _||_}
+use Prim.Native.Nat.{ℕ}
+use lib.ListN.{getD}
+use Rattle.lists.specs.Lists.{anyBelow, any}
+use Rattle.locks.specs.declared.Lock.{Lock}
+use Rattle.locks.specs.declared.Stage.{Stage}
+use Rattle.locks.specs.declared.Stage.the-variants.{Out}
+use Rattle.locks.specs.Stages.{againstHolder, againstWaiter}
+use Rattle.parties.specs.declared.Entry.{Entry}
+
+-- the entry of a party at a stage
+abbrev pub entryOf : Stage → Entry
+entryOf stage = record { stage = stage }
+
+-- the stage of a party in the entries; parties are 0 to 31
+abbrev pub stageIn : List Entry → ℕ → Stage
+stageIn entries party = (getD entries party (entryOf Out)) .stage
+
+-- CONFLICTS of a lock with those at the desk. With a holder
+abbrev pub meetsHolder : List Entry → Lock → Bool
+meetsHolder entries l = anyBelow 32 (λ party. againstHolder l (stageIn entries party))
+
+-- with a waiter among the parties
+abbrev pub meetsWaiter : List Entry → List ℕ → Lock → Bool
+meetsWaiter entries parties l = any (λ party. againstWaiter l (stageIn entries party)) parties
+
+-- with no holder and no waiter
+abbrev pub isFree : List Entry → Lock → Bool
+isFree entries l = not (anyBelow 32 (λ other. againstHolder l (stageIn entries other) || againstWaiter l (stageIn entries other)))
