@@ -11,8 +11,8 @@ use Rattle.lists.specs.Answer.{done, Check, refusal}
 use Rattle.locks.specs.declared.Mode.{Mode}
 use Rattle.locks.specs.declared.Lock.{Lock}
 use Rattle.locks.specs.Lent.{Hierarchy, coverIn, lockOn}
-use Rattle.parties.specs.declared.Swept.{Swept}
-use Rattle.parties.specs.Inner.{Sweeps}
+use Rattle.sweeps.specs.declared.Swept.{Swept}
+use Rattle.sweeps.specs.Sweeps.{Sweeps}
 use Rattle.arrivals.proofs.Queues.{listed-take}
 use Rattle.desk.specs.declared.Desk.{Desk}
 use Rattle.desk.specs.declared.EnterAnswer.the-variants.{Granted, Waits, Refused as EnterRefused}

@@ -10,10 +10,10 @@ use borrow.Author.Tests.{ne-eqb}
 use Rattle.lists.specs.Lists.{anyBelow}
 use Rattle.lists.specs.Answer.{Check, _when_, refusal}
 use Rattle.hierarchy.specs.Hierarchy.{edgesOf, someEdge, sizeWrong, edgesTooMany, edgeWrong}
-use Rattle.covers.specs.Cover.{callInterval}
+use Rattle.intervals.specs.Cover.{callInterval}
 use Rattle.lists.proofs.Refusals.{refused-here, refused-later}
 use Rattle.hierarchy.proofs.Legals.{right-size}
-use Rattle.covers.proofs.Covers.{closest-below}
+use Rattle.intervals.proofs.Covers.{closest-below}
 use Rattle.locks.specs.Stages.{isOut, isWaiting}
 use Rattle.locks.specs.Lent.{Hierarchy, lent, spanned, coverIn, tablesShort, intervalWrong, insideHold}
 use Rattle.locks.proofs.Tables.{inside-any}

@@ -7,7 +7,7 @@ use Prim.Native.Nat.{ℕ}
 use lib.Dec.{eqb}
 use Rattle.lists.specs.Answer.{Check, refusal}
 use Rattle.locks.specs.Lent.{Hierarchy}
-use Rattle.parties.specs.declared.Swept.{Swept}
+use Rattle.sweeps.specs.declared.Swept.{Swept}
 use Rattle.desk.specs.declared.Desk.{Desk}
 use Rattle.desk.specs.Steps.{tableChecks, countGrants, stepChecks, nodeChecks}
 

@@ -16,7 +16,7 @@ use Rattle.locks.specs.Stages.{isOut, isWaiting, readsOnly}
 use Rattle.locks.specs.Lent.{Hierarchy, coverIn, tablesShort, intervalWrong, namesWrong, lockOn, insideLock, insideHold}
 use Rattle.parties.specs.Parties.{entryOf, isFree}
 use Rattle.arrivals.specs.Arrivals.{queuePlaces}
-use Rattle.parties.specs.Sweeps.{Sweep, leavingOf}
+use Rattle.sweeps.specs.Sweeps.{Sweep, leavingOf}
 use Rattle.desk.specs.declared.Desk.{Desk}
 use Rattle.desk.specs.Desks.{stageAt, queueOf}
 use Rattle.desk.specs.Sound.{soundDesk}

@@ -9,14 +9,12 @@ ghost use Rattle.desk.specs.Steps.{countGrants, grantTo, queueLast, ente
 ghost use Rattle.desk.specs.Answers.{Enters, Gets, Puts, Leaves};
 ghost use Rattle.desk.specs.Inner.{TablesJudged, Judged, NodeJudged, leftBy};
 use arrivals::Listed;
+use arrivals::PARTIES;
 use locks::Lock;
 use locks::Mode;
 use locks::Stage;
 use parties::Entry;
-use parties::Swept;
-
-// Parties of a desk.
-const PARTIES: usize = arrivals::PARTIES;
+use sweeps::Swept;
 
 // The desk: an entry for each of 32 parties, the waiting parties in arrival order at the front of the queue, and the count of grants.
 pub struct Desk {
@@ -271,7 +269,7 @@ impl Desk {
                 answer: EnterAnswer::Refused(15),
             };
         }
-        let c = covers::cover(n, intervals, &names[..name_count]);
+        let c = intervals::cover(n, intervals, &names[..name_count]);
         let l = locks::lock_on(intervals, mode, c as u16);
         if parties::is_free(entries, l) {
             let d = self.granted(party, l);
@@ -399,7 +397,7 @@ impl Desk {
         }
         let places = self.queue;
         let count = self.waiting;
-        let swept = parties::leaving(entries, Listed { places, count }, party);
+        let swept = sweeps::leaving(entries, Listed { places, count }, party);
         let granted = swept.granted;
         let first = granted.places;
         let left = granted.count;

@@ -4,9 +4,9 @@ use mathlib.Core.Bool.{true}
 use Rattle.lists.specs.Lists.{allBelow, anyBelow, every, any, keep, over, foldFrom, least, greatest}
 use Rattle.lists.specs.Answer.{refusal}
 use Rattle.hierarchy.specs.Hierarchy.{someEdge}
-use Rattle.covers.specs.Cover.{closest}
+use Rattle.intervals.specs.Cover.{closest}
 use Rattle.parties.specs.Sound.{soundParties}
-use Rattle.parties.specs.Sweeps.{offer, sweep}
+use Rattle.sweeps.specs.Sweeps.{offer, sweep}
 use Rattle.desk.specs.Steps.{enterStep, getStep, putStep, leaveStep}
 use Rattle.runs.specs.Run.{listed}
 use Rattle.examples.specs.Cases.{sameNumbers, asNumbers, sameAnswers}

@@ -6,13 +6,13 @@ use Rattle.lists.specs.Answer.{refusal}
 use Rattle.hierarchy.specs.Hierarchy.{children, someEdge, spread, spreads, reach, edgeTwice, someUnreached}
 use Rattle.intervals.specs.Numbering.{meet, visit, inside, walk, numbering}
 use Rattle.intervals.specs.Intervals.{numbersAmong, lowOf, highOf, intervalsFrom, intervalTable}
-use Rattle.covers.specs.Cover.{closest}
+use Rattle.intervals.specs.Cover.{closest}
 use Rattle.octets.specs.Fletcher.{words, sums, fletcher}
 use Rattle.blocks.specs.Record.{enterRight, kinds, rowIn, recordRight, inOrder}
 use Rattle.blocks.specs.Block.{afterRecord, afterRecords, countRight, headRight, afterBlock, recordsIn, blockBody, blockOf}
 use Rattle.blocks.specs.File.{afterBlocks, recordsOf, notBlocks, blocksOf}
 use Rattle.parties.specs.Sound.{soundParties}
-use Rattle.parties.specs.Sweeps.{offer, sweep}
+use Rattle.sweeps.specs.Sweeps.{offer, sweep}
 use Rattle.desk.specs.Steps.{enterStep, getStep, putStep, leaveStep}
 use Rattle.runs.specs.Run.{lend, restored, lentTo, afterEnter, afterGet, afterPut, listed, afterLeave, moveCall, move, alsoRan, run}
 use Rattle.replay.specs.Replay.{eachRecord, edgeTable, runRecords, runFile}

@@ -4,7 +4,7 @@ use Prim.Native.Nat.{ℕ, _*_, _/_}
 use lib.ListN.{length, replicate}
 use Rattle.lists.specs.Answer.{numberOf}
 use Rattle.intervals.specs.Build.{BuildResult, buildRefusal, buildStep}
-use Rattle.covers.specs.Cover.{coverOf}
+use Rattle.intervals.specs.Cover.{coverOf}
 use Rattle.examples.specs.Cases.{Case, intervals, cover}
 use Rattle.examples.specs.Table.{T, shared}
 use Rattle.examples.specs.Rows.{Row, is, are}

@@ -26,7 +26,7 @@ use Rattle.locks.specs.Stages.{holdersConflict}
 use Rattle.parties.specs.Parties.{entryOf, stageIn, meetsHolder, meetsWaiter}
 use Rattle.parties.specs.Sound.{holdersApart}
 use Rattle.parties.proofs.Clauses.{clauses}
-use Rattle.parties.specs.Sweeps.{Sweep, staysWaiting, isGranted, offerIf, offerTo, offer, sweep}
+use Rattle.sweeps.specs.Sweeps.{Sweep, staysWaiting, isGranted, offerIf, offerTo, offer, sweep}
 use Rattle.desk.specs.Desks.{stageAt}
 use Rattle.desk.specs.Sound.{soundDesk}
 use Rattle.desk.specs.Steps.{StepFacts, NodeFacts, valueChecks}

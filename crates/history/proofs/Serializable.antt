@@ -24,7 +24,7 @@ use Rattle.locks.specs.Locks.{bothReading, share, conflict}
 use Rattle.locks.specs.Stages.{isReading, readsOnly}
 use Rattle.locks.specs.Lent.{Hierarchy, lowIn, highIn, coverIn, lockOn, insideLock}
 use Rattle.parties.specs.Parties.{entryOf}
-use Rattle.parties.specs.Sweeps.{Sweep, sweep}
+use Rattle.sweeps.specs.Sweeps.{Sweep, sweep}
 use Rattle.desk.specs.Steps.{putOwn, enterRefusal, leaveRefusal, free, grantTo, enterIf, enterUnless, enterStep, getUnless, getStep, putUnless, putStep, leaveWith, leaveUnless, leaveStep}
 use Rattle.runs.specs.Run.{Lending, lend, Call, enter, get, put, leave, Step, lentTo, State, start, Moved, afterEnter, afterGet, afterPut, listed, afterLeave, moveCall, move, alsoRan, run}
 use Rattle.runs.specs.Over.{startOver, runOver}

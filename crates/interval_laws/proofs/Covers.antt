@@ -9,12 +9,12 @@ use borrow.Author.Tests.{leb-true, le-leb}
 use Rattle.lists.specs.Lists.{foldFrom, least, greatest}
 use Rattle.hierarchy.specs.Hierarchy.{edgesOf, Legal}
 use Rattle.intervals.specs.Intervals.{intervalTable}
-use Rattle.covers.specs.Cover.{lowAt, highAt, intervalAt, callInterval, contains, width, closest, coverOf, IsCover}
-use Rattle.covers.specs.declared.Interval.{Interval}
+use Rattle.intervals.specs.Cover.{lowAt, highAt, intervalAt, callInterval, contains, width, closest, coverOf, IsCover}
+use Rattle.intervals.specs.declared.Interval.{Interval}
 use Rattle.lists.proofs.Bools.{and-left, and-right, and-both}
 use Rattle.lists.proofs.Members.{In, head, tail, least-is, greatest-is}
 use Rattle.hierarchy.proofs.Legals.{promised}
-use Rattle.covers.proofs.Covers.{closest-cover}
+use Rattle.intervals.proofs.Covers.{closest-cover}
 use Rattle.interval_laws.specs.Covers.{Rooted}
 use Rattle.interval_laws.proofs.Laws.{map-is, name-once, built-low, built-high, interval-real, interval-inside-root}
 

@@ -15,7 +15,7 @@ use Rattle.hierarchy.specs.Hierarchy.{edgesOf, Edge, Reach, reach, hierarchyChe
 use Rattle.hierarchy.specs.Hierarchy.Reach.{self, step}
 use Rattle.intervals.specs.Numbering.{numbering}
 use Rattle.intervals.specs.Intervals.{lowOf, highOf, intervalsFrom, intervalTable}
-use Rattle.covers.specs.Cover.{lowAt, highAt, callInterval}
+use Rattle.intervals.specs.Cover.{lowAt, highAt, callInterval}
 use Rattle.intervals.specs.Build.{buildShort, buildRefusal, buildStep}
 use Rattle.lists.proofs.Bools.{or-left, or-right, not-both}
 use Rattle.lists.proofs.Refusals.{refused-later, refusal-none}

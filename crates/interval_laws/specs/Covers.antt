@@ -3,7 +3,7 @@ use mathlib.Core.Path.{_≡_}
 use mathlib.Core.List.{List}
 use mathlib.Core.Bool.{true}
 use Prim.Native.Nat.{ℕ, _≤_, _<_}
-use Rattle.covers.specs.Cover.{lowAt, highAt, intervalAt, contains}
+use Rattle.intervals.specs.Cover.{lowAt, highAt, intervalAt, contains}
 
 -- each of n nodes has low at most high, and an interval inside node 0's. It is what laws of the cover take from refusal 10, which asks more (1 to 256)
 pub record Rooted (n : ℕ) (table : List ℕ) : Type 0 where

@@ -8,3 +8,4 @@ pub mod Tables
 pub mod Extremes
 pub mod Writes
 pub mod Builds
+pub mod Covers

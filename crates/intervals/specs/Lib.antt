@@ -1,4 +1,5 @@
 pub mod Numbering
 pub mod Intervals
 pub mod Build
+pub mod Cover
 pub mod Inner

@@ -13,12 +13,12 @@ use borrow.Author.Tests.{leb-true, ltb-true, ltb-false}
 use Rattle.lists.proofs.Loops.{keep-few}
 use Rattle.lists.specs.Lists.{allBelow, every, keptIf, keep, over, Below}
 use Rattle.lists.specs.Answer.{Check, refusal}
-use Rattle.covers.specs.Cover.{callInterval}
+use Rattle.intervals.specs.Cover.{callInterval}
 use Rattle.lists.proofs.Bools.{bool, and-left, and-right}
 use Rattle.lists.proofs.Bounded.{all-at}
 use Rattle.lists.proofs.Refusals.{refused-here, refused-later}
 use Rattle.hierarchy.proofs.Legals.{right-size}
-use Rattle.covers.proofs.Covers.{closest-below}
+use Rattle.intervals.proofs.Covers.{closest-below}
 use Rattle.blocks.specs.Record.{kindOf, partyIn, modeIn, nameCountIn, namesIn, nodeIn, valueIn}
 use Rattle.locks.specs.declared.Mode.{Mode}
 use Rattle.locks.specs.declared.Lock.{Lock}
@@ -30,7 +30,7 @@ use Rattle.locks.specs.Lent.{Hierarchy, coverIn, lockOn}
 use Rattle.parties.specs.Parties.{entryOf, stageIn, meetsHolder, meetsWaiter}
 use Rattle.desk.specs.Desks.{listedAt, queueOf, freshDesk}
 use Rattle.parties.specs.Sound.{listsParties}
-use Rattle.parties.specs.Sweeps.{Sweep, staysWaiting, isGranted, offerIf, offerTo, offer, sweep}
+use Rattle.sweeps.specs.Sweeps.{Sweep, staysWaiting, isGranted, offerIf, offerTo, offer, sweep}
 use Rattle.desk.specs.Steps.{putOwn, StepFacts, stepChecks, valueChecks, free, enterRefusal, enterIf, enterUnless, enterStep, getUnless, getStep, putUnless, putStep, afterLeaving, leaveRefusal, leaveUnless, leaveStep}
 use Rattle.desk.proofs.Facts.{step-facts}
 use Rattle.parties.proofs.Clauses.{clauses, sound-few}

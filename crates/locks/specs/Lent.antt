@@ -5,7 +5,7 @@ use Prim.Native.Nat.{ℕ, _*_}
 use lib.Dec.{eqb, leb, ltb}
 use lib.ListN.{length, take}
 use Rattle.lists.specs.Lists.{any}
-use Rattle.covers.specs.Cover.{lowAt, highAt, coverOf}
+use Rattle.intervals.specs.Cover.{lowAt, highAt, coverOf}
 use Rattle.locks.specs.declared.Mode.{Mode}
 use Rattle.locks.specs.declared.Lock.{Lock}
 use Rattle.locks.specs.declared.Stage.{Stage}

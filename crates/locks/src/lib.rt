@@ -135,7 +135,7 @@ fn lock_right(n: usize, intervals: &[u16], l: Lock) -> bool
     if n <= c {
         return false;
     }
-    let i = covers::interval_at(intervals, c);
+    let i = intervals::interval_at(intervals, c);
     if i.low != l.low {
         return false;
     }
@@ -175,7 +175,7 @@ fn some_interval_wrong(n: usize, intervals: &[u16]) -> bool
     requires { ⌜ 2 * n ≤ length (now intervals) ⌝ }
     ensures { λ r. ⌜ r ≡ anyBelow n (intervalWrong (spanned n (now (intervals .entry)))) ⌝ }
 {
-    let root = covers::interval_at(intervals, 0);
+    let root = intervals::interval_at(intervals, 0);
     let mut wrong = false;
     let mut i = 0;
     while i < n {
@@ -232,7 +232,7 @@ pub fn names_wrong(n: usize, names: &[u16], name_count: usize) -> bool
 pub fn lock_on(intervals: &[u16], mode: Mode, cover: u16) -> Lock
     ensures { λ r. ⌜ r ≡ lockOn (spanned 0 (now (intervals .entry))) mode cover ⌝ }
 {
-    let i = covers::interval_at(intervals, cover as usize);
+    let i = intervals::interval_at(intervals, cover as usize);
     Lock {
         mode,
         cover,
@@ -245,7 +245,7 @@ pub fn lock_on(intervals: &[u16], mode: Mode, cover: u16) -> Lock
 fn inside_lock(intervals: &[u16], node: usize, l: Lock) -> bool
     ensures { λ r. ⌜ r ≡ insideLock (spanned 0 (now (intervals .entry))) node l ⌝ }
 {
-    let i = covers::interval_at(intervals, node);
+    let i = intervals::interval_at(intervals, node);
     if i.low < l.low {
         return false;
     }

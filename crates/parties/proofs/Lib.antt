@@ -2,4 +2,3 @@
 pub mod Stages
 pub mod Rows
 pub mod Clauses
-pub mod Sweeps

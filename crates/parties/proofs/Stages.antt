@@ -9,8 +9,7 @@ use borrow.Author.Tests.{ltb-false}
 use Rattle.lists.proofs.Bools.{bool}
 use Rattle.locks.specs.declared.Stage.the-variants.{Out}
 use Rattle.parties.specs.declared.Entry.{Entry}
-use Rattle.parties.specs.Parties.{entryOf, stageIn}
-use Rattle.parties.specs.Inner.{placeOf, seatedAt}
+use Rattle.parties.specs.Parties.{entryOf, stageIn, placeOf, seatedAt}
 
 -- past the entries everybody is out
 pub past-out : (entries : List Entry) (party : ℕ) → length entries ≤ party → Out ≡ stageIn entries party

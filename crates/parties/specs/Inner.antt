@@ -1,12 +1,11 @@
--- Terms of the contracts of private functions, and of what structs hand back: no definition of the paper is here. Assumes nothing.
+-- Terms of the contracts of private functions only: no definition of the paper is here. Assumes nothing.
 use mathlib.Core.List.{List}
-use mathlib.Core.Bool.{Bool, false, not, cond, _&&_, _||_}
+use mathlib.Core.Bool.{Bool, false, not, _&&_, _||_}
 use mathlib.Core.Path.{_≡_}
 use Prim.Native.Nat.{ℕ, _+_, _*_, _≤_}
-use lib.Dec.{leb, ltb}
+use lib.Dec.{leb}
 use lib.ListN.{getD, set}
 use Rattle.lists.specs.Lists.{allBelow, anyBelow}
-use Rattle.arrivals.specs.Arrivals.{Lists}
 use Rattle.locks.specs.declared.Lock.{Lock}
 use Rattle.locks.specs.declared.Stage.{Stage}
 use Rattle.locks.specs.declared.Stage.the-variants.{Out, Waiting, Holding}
@@ -14,31 +13,9 @@ use Rattle.locks.specs.Locks.{conflict, lockNumbered, modeNumber}
 use Rattle.locks.specs.Stages.{isWaiting}
 use Rattle.locks.specs.Lent.{Hierarchy}
 use Rattle.parties.specs.declared.Entry.{Entry}
-use Rattle.parties.specs.declared.Swept.{Swept}
 use Rattle.parties.specs.declared.Holds.{Holds}
-use Rattle.parties.specs.Parties.{stageIn, meetsHolder, meetsWaiter}
+use Rattle.parties.specs.Parties.{stageIn, meetsHolder}
 use Rattle.parties.specs.Sound.{isListed, coversRight, holdersApart}
-use Rattle.parties.specs.Sweeps.{Sweep}
-
--- the place of a party's entry; that of party 0 for a party over 31
-abbrev pub placeOf : ℕ → ℕ
-placeOf party = cond (ltb party 32) party 0
-
--- the stage of a party by what stands at its place
-abbrev pub seatedAt : ℕ → Stage → Stage
-seatedAt party stage = cond (ltb party 32) stage Out
-
--- what a pass over the waiters hands back
-pub record Sweeps (s : Sweep) (r : Swept) : Type 0 where
-  pub entries : r .entries ≡ s .entries
-  pub stay : Lists (r .stay) (s .stay)
-  pub granted : Lists (r .granted) (s .granted)
-
--- a party at this stage waits, and is granted on these entries, with these still waiting before it
-abbrev pub mayGo : List Entry → List ℕ → Stage → Bool
-mayGo entries stay Out = false
-mayGo entries stay (Waiting l) = not (meetsHolder entries l || meetsWaiter entries stay l)
-mayGo entries stay (Holding l) = false
 
 -- LOCKS AS NUMBERS: three numbers each, mode, low and high; a row of a table. The lock of a row; a cover plays no part in a conflict
 abbrev pub rowOf : List ℕ → ℕ → Lock

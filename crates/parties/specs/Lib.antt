@@ -1,4 +1,3 @@
 pub mod Parties
 pub mod Sound
-pub mod Sweeps
 pub mod Inner

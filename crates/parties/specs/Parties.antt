@@ -1,7 +1,8 @@
 -- The entries of the parties, and who conflicts with whom. Assumes nothing.
 use mathlib.Core.List.{List}
-use mathlib.Core.Bool.{Bool, not, _||_}
+use mathlib.Core.Bool.{Bool, not, cond, _||_}
 use Prim.Native.Nat.{ℕ}
+use lib.Dec.{ltb}
 use lib.ListN.{getD}
 use Rattle.lists.specs.Lists.{anyBelow, any}
 use Rattle.locks.specs.declared.Lock.{Lock}
@@ -17,6 +18,14 @@ entryOf stage = record { stage = stage }
 -- the stage of a party in the entries; parties are 0 to 31
 abbrev pub stageIn : List Entry → ℕ → Stage
 stageIn entries party = (getD entries party (entryOf Out)) .stage
+
+-- the place of a party's entry; that of party 0 for a party over 31
+abbrev pub placeOf : ℕ → ℕ
+placeOf party = cond (ltb party 32) party 0
+
+-- the stage of a party by what stands at its place
+abbrev pub seatedAt : ℕ → Stage → Stage
+seatedAt party stage = cond (ltb party 32) stage Out
 
 -- CONFLICTS of a lock with those at the desk. With a holder
 abbrev pub meetsHolder : List Entry → Lock → Bool

@@ -11,17 +11,13 @@ ghost use Rattle.desk.specs.Answers.{enterMeaning, getMeaning, putMeaning, leav
 ghost use Rattle.replay.specs.Replay.{recordList, sizeOf, edgeTable, edgeCountOf, enterLine, getLine, putLine, enterCall, getCall, putCall, leaveCall, stateOf, perform as performing};
 ghost use Rattle.replay.specs.Answers.{EdgesInto, edgesInto, outcomeOf, Performs};
 ghost use Rattle.replay.specs.Inner.{recordAt, edgeOf, leftOutcome, PerformsCall, PerformsAny};
+use arrivals::PARTIES;
+use blocks::RECORD;
 use desk::Desk;
 use desk::EnterAnswer;
 use desk::GetAnswer;
 use desk::LeaveAnswer;
 use desk::PutAnswer;
-
-// Bytes of a record.
-const RECORD: usize = blocks::RECORD;
-
-// Parties of a desk.
-const PARTIES: usize = arrivals::PARTIES;
 
 // What a step of a file answers, one value for the four kinds. `Left` counts the granted parties, which stand first in `Step::parties`.
 pub enum Outcome {

@@ -12,8 +12,8 @@ use lib.Seq.{length-take-le}
 use borrow.Author.Tests.{leb-true, ltb-true, ltb-false, not-false}
 use Rattle.lists.specs.Lists.{anyBelow, any}
 use Rattle.lists.specs.Answer.{Answer, done, refused, Check}
-use Rattle.covers.specs.Cover.{intervalAt, callInterval, IsCover}
-use Rattle.covers.specs.declared.Interval.{Interval}
+use Rattle.intervals.specs.Cover.{intervalAt, callInterval, IsCover}
+use Rattle.intervals.specs.declared.Interval.{Interval}
 use Rattle.lists.proofs.Bools.{bool, not-both, and-left, or-left, or-right}
 use Rattle.lists.proofs.Refusals.{refusal-none}
 use Rattle.lists.proofs.Members.{In, head}

@@ -13,14 +13,14 @@ use borrow.Author.Tests.{eq-eqb, lt-ltb, not-true, not-false}
 use Rattle.lists.specs.Lists.{keep}
 use Rattle.lists.specs.Answer.{Check}
 use Rattle.hierarchy.specs.Hierarchy.{sizeWrong}
-use Rattle.covers.specs.Cover.{callInterval}
+use Rattle.intervals.specs.Cover.{callInterval}
 use Rattle.lists.proofs.Bools.{bool, not-both, or-left}
 use Rattle.lists.proofs.Refusals.{refusal-none}
 use Rattle.lists.proofs.Bounded.{any-stop, any-none, none-of}
 use Rattle.lists.proofs.Members.{In}
 use Rattle.lists.proofs.Distinct.{any-some, any-in, in-front, in-between, distinct-between}
 use Rattle.hierarchy.proofs.Legals.{right-size}
-use Rattle.covers.proofs.Covers.{closest-below}
+use Rattle.intervals.proofs.Covers.{closest-below}
 use Rattle.locks.specs.declared.Mode.{Mode}
 use Rattle.locks.specs.declared.Lock.{Lock}
 use Rattle.locks.specs.declared.Stage.{Stage}
@@ -31,7 +31,7 @@ use Rattle.locks.specs.Stages.{isOut, isWaiting, againstHolder, againstWaiter}
 use Rattle.locks.proofs.Tables.{not-wrong}
 use Rattle.parties.specs.declared.Entry.{Entry}
 use Rattle.parties.specs.Parties.{entryOf, stageIn, meetsHolder, meetsWaiter}
-use Rattle.parties.specs.Sweeps.{Sweep, offerIf, offerTo, offer, sweep}
+use Rattle.sweeps.specs.Sweeps.{Sweep, offerIf, offerTo, offer, sweep}
 use Rattle.arrivals.proofs.Queues.{places-length}
 use Rattle.desk.specs.declared.Desk.{Desk}
 use Rattle.desk.specs.Desks.{stageAt, queueOf, freshDesk}

@@ -10,6 +10,7 @@ ghost use Rattle.replay.specs.Replay.{isHolding, holdersAt};
 ghost use Rattle.texts.specs.Text.{decimal, space, leftWord, spaced, answerText};
 ghost use Rattle.texts.specs.Lines.{stepLine, endLine, listing};
 ghost use Rattle.texts.specs.Pages.{Puts};
+use arrivals::PARTIES;
 use desk::Desk;
 use locks::Stage;
 use parties::Entry;
@@ -136,7 +137,7 @@ fn holders(desk: Desk) -> usize
 {
     let mut count = 0;
     let mut i = 0;
-    while i < 32 {
+    while i < PARTIES {
         let e = desk.entries[i];
         count += holding(e);
         i += 1;

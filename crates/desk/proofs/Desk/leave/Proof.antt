@@ -13,7 +13,7 @@ use Rattle.lists.proofs.Refusals.{refused-here, refused-later}
 use Rattle.lists.proofs.Loops.{field-length}
 use Rattle.locks.specs.Stages.{isOut}
 use Rattle.locks.specs.Lent.{Hierarchy, lent}
-use Rattle.parties.proofs.Sweeps.{leaving-few}
+use Rattle.sweeps.proofs.Sweeps.{leaving-few}
 use Rattle.arrivals.proofs.Queues.{places-length}
 use Rattle.desk.specs.Desks.{stageAt}
 use Rattle.desk.specs.Steps.{leaveOwn, StepFacts, afterLeaving, leaveRefusal}

@@ -1,2 +1,0 @@
--- What the proofs of several functions, and of the layers above, use.
-pub mod Covers
