@@ -14,7 +14,8 @@ use Rattle.lists.specs.Answer.{done, refused, answerOf}
 use Rattle.lists.proofs.Bools.{bool, and-left, and-right, or-left}
 use Rattle.lists.proofs.Refusals.{refusal-none}
 use Rattle.blocks.specs.Block.{afterRecords, blockOf}
-use Rattle.blocks.specs.File.{afterBlocks, recordsOf, blocksOf, wholeBlocks, fileStage, fileRecords, notBlocks, readRefusal, FileResult, readFile, blocksFor, fileOf, recordsWrong, writeRefusal, writeFile}
+use Rattle.blocks.specs.File.{afterBlocks, recordsOf, blocksOf, wholeBlocks, fileStage, fileRecords, notBlocks, readRefusal}
+use Rattle.blocks.specs.File.{FileResult, readFile, blocksFor, fileOf, recordsWrong, writeRefusal, writeFile}
 use Rattle.blocks.proofs.Stages.{blocks-most}
 use Rattle.blocks.proofs.Making.{length-block}
 use Rattle.blocks.proofs.Answers.{blocks-facts, read-refuses, read-gives, read-1, read-none, write-refuses, write-gives, write-room, write-none, right-records, stage-some}

@@ -13,7 +13,8 @@ use Rattle.lists.specs.Answer.{Answer, done, refused, refusal}
 use Rattle.lists.proofs.Bools.{bool, and-left, and-right, or-neither}
 use Rattle.lists.proofs.Refusals.{refused-here, refused-later}
 use Rattle.blocks.specs.Block.{afterRecords}
-use Rattle.blocks.specs.File.{wholeBlocks, fileStage, fileRecords, notBlocks, readRefusal, FileResult, leaving, readFile, blocksFor, fileOf, recordsWrong, writeRefusal, writeFile}
+use Rattle.blocks.specs.File.{wholeBlocks, fileStage, fileRecords, notBlocks, readRefusal, FileResult, leaving}
+use Rattle.blocks.specs.File.{readFile, blocksFor, fileOf, recordsWrong, writeRefusal, writeFile}
 use Rattle.blocks.proofs.Stages.{blocks-most}
 
 -- no check is left

@@ -19,7 +19,8 @@ use Rattle.desk.specs.declared.EnterAnswer.the-variants.{Granted, Waits,
 use Rattle.desk.specs.declared.GetAnswer.the-variants.{Value, Waiting, Refused as GetRefused}
 use Rattle.desk.specs.declared.PutAnswer.the-variants.{Stored, Refused as PutRefused}
 use Rattle.desk.specs.declared.LeaveAnswer.the-variants.{Left, Refused as LeaveRefused}
-use Rattle.desk.specs.Steps.{putOwn, countGrants, enterRefusal, grantTo, queueLast, free, enterIf, enterUnless, enterStep, valueChecks, getUnless, getStep, putUnless, putStep, afterLeaving, leaveUnless, leaveRefusal, leaveStep}
+use Rattle.desk.specs.Steps.{putOwn, countGrants, enterRefusal, grantTo, queueLast, free, enterIf, enterUnless, enterStep}
+use Rattle.desk.specs.Steps.{valueChecks, getUnless, getStep, putUnless, putStep, afterLeaving, leaveUnless, leaveRefusal, leaveStep}
 use Rattle.desk.specs.Answers.{Enters, Gets, Puts, Leaves}
 use Rattle.desk.specs.Inner.{leftBy}
 

@@ -22,7 +22,8 @@ use Rattle.blocks.specs.File.{fileChecks, fileRecords}
 use Rattle.locks.specs.Lent.{Hierarchy}
 use Rattle.desk.specs.Steps.{granted as admitted, Admission, waits as queued}
 use Rattle.runs.specs.Run.{Call, Event, entered, got, stored, left, State, Moved, afterEnter, afterGet, afterPut, afterLeave, moveCall, move, alsoRan, run}
-use Rattle.replay.specs.Replay.{enterCall, getCall, putCall, leaveCall, callOf, stepOf, enterLine, getLine, putLine, leaveLine, answerIn, perform, FileRun, performAll, answersOf, builtOf, startOf, fileRun, sizeOf, stepRecords, edgeTable, edgeCountOf, runUnless, runRecords, recordList, runFile, fileUnless}
+use Rattle.replay.specs.Replay.{enterCall, getCall, putCall, leaveCall, callOf, stepOf, enterLine, getLine, putLine, leaveLine, answerIn, perform, FileRun, performAll}
+use Rattle.replay.specs.Replay.{answersOf, builtOf, startOf, fileRun, sizeOf, stepRecords, edgeTable, edgeCountOf, runUnless, runRecords, recordList, runFile, fileUnless}
 use Rattle.replay.proofs.Outcomes.{call-3, call-4, call-5, call-6}
 use Rattle.replay.proofs.Records.{edge-table-length}
 use Rattle.history.specs.Serial.{Built, SerialSteps}

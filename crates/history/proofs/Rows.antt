@@ -12,7 +12,8 @@ use borrow.Author.Tests.{eqb-true, eq-eqb}
 use Rattle.lists.specs.Answer.{done, refused}
 use Rattle.desk.specs.Steps.{granted, waits}
 use Rattle.runs.specs.Run.{Event, entered, got, stored, left}
-use Rattle.history.specs.History.{Op, didGet, didPut, Transaction, begun, visited, withOp, addToLatest, noted, historyFrom, history, grantedBy, grantedIn, bareEvent, opsIn, finds, leaves, opsFind, opsLeave, serialFinds, serialLeaves}
+use Rattle.history.specs.History.{Op, didGet, didPut, Transaction, begun, visited, withOp, addToLatest, noted, historyFrom, history}
+use Rattle.history.specs.History.{grantedBy, grantedIn, bareEvent, opsIn, finds, leaves, opsFind, opsLeave, serialFinds, serialLeaves}
 
 module _ {A : Type 0} where
   unfoldable pub nodeOf : Op A → ℕ

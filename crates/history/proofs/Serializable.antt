@@ -25,16 +25,20 @@ use Rattle.locks.specs.Stages.{isReading, readsOnly}
 use Rattle.locks.specs.Lent.{Hierarchy, lowIn, highIn, coverIn, lockOn, insideLock}
 use Rattle.parties.specs.Parties.{entryOf}
 use Rattle.sweeps.specs.Sweeps.{Sweep, sweep}
-use Rattle.desk.specs.Steps.{putOwn, enterRefusal, leaveRefusal, free, grantTo, enterIf, enterUnless, enterStep, getUnless, getStep, putUnless, putStep, leaveWith, leaveUnless, leaveStep}
-use Rattle.runs.specs.Run.{Lending, lend, Call, enter, get, put, leave, Step, lentTo, State, start, Moved, afterEnter, afterGet, afterPut, listed, afterLeave, moveCall, move, alsoRan, run}
+use Rattle.desk.specs.Steps.{putOwn, enterRefusal, leaveRefusal, free, grantTo, enterIf, enterUnless, enterStep}
+use Rattle.desk.specs.Steps.{getUnless, getStep, putUnless, putStep, leaveWith, leaveUnless, leaveStep}
+use Rattle.runs.specs.Run.{Lending, lend, Call, enter, get, put, leave, Step, lentTo, State, start}
+use Rattle.runs.specs.Run.{Moved, afterEnter, afterGet, afterPut, listed, afterLeave, moveCall, move, alsoRan, run}
 use Rattle.runs.specs.Over.{startOver, runOver}
 use Rattle.runs.proofs.Lends.{lend-at, restored-lend, restored-lend-set, low-lent, high-lent}
 use Rattle.runs.proofs.Runs.{run-over}
-use Rattle.history.specs.History.{Op, didGet, didPut, Transaction, begun, visited, addToLatest, noted, historyFrom, history, bare, bareEvent, opsIn, counted, countedFrom, finds, leaves, serialFinds, serialLeaves}
+use Rattle.history.specs.History.{Op, didGet, didPut, Transaction, begun, visited, addToLatest, noted, historyFrom, history}
+use Rattle.history.specs.History.{bare, bareEvent, opsIn, counted, countedFrom, finds, leaves, serialFinds, serialLeaves}
 use Rattle.history.specs.Serial.{Built, Serial, SerialOver}
 use Rattle.desk.specs.declared.Desk.{Desk}
 use Rattle.desk.specs.Desks.{stageAt, queueOf}
-use Rattle.history.proofs.Rows.{nodeOf, IsGet, Commute, Clear, Clear-map, Clear-new, Clear-granted, Clear-add, Clear-visited, insert-leaves, insert-finds, append-leaves, append-finds, opsIn-add, opsIn-new, row-order}
+use Rattle.history.proofs.Rows.{nodeOf, IsGet, Commute, Clear, Clear-map, Clear-new, Clear-granted, Clear-add}
+use Rattle.history.proofs.Rows.{Clear-visited, insert-leaves, insert-finds, append-leaves, append-finds, opsIn-add, opsIn-new, row-order}
 use Rattle.history.proofs.Facts.{set-stage, holder-below, all-out, sweep-length, sweep-holds, holders-apart, right-ordered, Touch, touch, touch-own}
 
 -- MODES AND LOCKS

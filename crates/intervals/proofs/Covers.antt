@@ -113,7 +113,8 @@ module _ (table : List ℕ) (call : Interval) where
   -- past the table all intervals are alike, so that one node there stands for all
   past-same : (r s : ℕ) → length table ≤ 2 * r → length table ≤ 2 * s → intervalAt table r ≡ intervalAt table s
   past-same r s h g =
-      rw (List·getD-eq-default table 0 {n = 2 * r} h, List·getD-eq-default table 0 {n = 2 * s} g, List·getD-eq-default table 0 {n = 2 * r + 1} (omega arith), List·getD-eq-default table 0 {n = 2 * s + 1} (omega arith))
+      let past : (n : ℕ) → length table ≤ n → getD table n 0 ≡ 0 = λ n l. List·getD-eq-default table 0 {n = n} l in
+      rw (past (2 * r) h, past (2 * s) g, past (2 * r + 1) (omega arith), past (2 * s + 1) (omega arith))
 
   closest-past : (k r : ℕ) → length table ≤ 2 * r → r < k → closest (suc k) table call ≡ closest k table call
   unfolding closest

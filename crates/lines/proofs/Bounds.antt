@@ -31,7 +31,8 @@ use Rattle.parties.specs.Parties.{entryOf, stageIn, meetsHolder, meetsWaiter}
 use Rattle.desk.specs.Desks.{listedAt, queueOf, freshDesk}
 use Rattle.parties.specs.Sound.{listsParties}
 use Rattle.sweeps.specs.Sweeps.{Sweep, staysWaiting, isGranted, offerIf, offerTo, offer, sweep}
-use Rattle.desk.specs.Steps.{putOwn, StepFacts, stepChecks, valueChecks, free, enterRefusal, enterIf, enterUnless, enterStep, getUnless, getStep, putUnless, putStep, afterLeaving, leaveRefusal, leaveUnless, leaveStep}
+use Rattle.desk.specs.Steps.{putOwn, StepFacts, stepChecks, valueChecks, free, enterRefusal, enterIf, enterUnless, enterStep}
+use Rattle.desk.specs.Steps.{getUnless, getStep, putUnless, putStep, afterLeaving, leaveRefusal, leaveUnless, leaveStep}
 use Rattle.desk.proofs.Facts.{step-facts}
 use Rattle.parties.proofs.Clauses.{clauses, sound-few}
 use Rattle.replay.proofs.Outcomes.{put-length}

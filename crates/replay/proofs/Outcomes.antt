@@ -18,7 +18,8 @@ use Rattle.desk.specs.declared.PutStep.{PutStep}
 use Rattle.desk.specs.declared.LeaveStep.{LeaveStep}
 use Rattle.locks.specs.Locks.{modeNumbered}
 use Rattle.locks.specs.Lent.{Hierarchy}
-use Rattle.desk.specs.Steps.{granted as admitted, Admission, waits as queued, EnterResult, GetResult, PutResult, LeaveResult, afterLeaving, leaveUnless, leaveRefusal, enterStep, getStep, putUnless, putStep, leaveStep}
+use Rattle.desk.specs.Steps.{granted as admitted, Admission, waits as queued, EnterResult, GetResult, PutResult, LeaveResult, afterLeaving}
+use Rattle.desk.specs.Steps.{leaveUnless, leaveRefusal, enterStep, getStep, putUnless, putStep, leaveStep}
 use Rattle.desk.specs.Answers.{Enters, Gets, Puts, Leaves, enterMeaning, getMeaning, putMeaning, leaveMeaning}
 use Rattle.runs.specs.Run.{lend, Call, leave, lentTo, State, Moved, afterEnter, afterGet, afterPut, listed, afterLeave, moveCall, move}
 use Rattle.runs.proofs.Lends.{restored-full}
@@ -26,7 +27,8 @@ use Rattle.runs.proofs.Exact.{call-exact}
 use Rattle.runs.proofs.Runs.{move-hierarchy}
 use Rattle.replay.specs.declared.Outcome.{Outcome}
 use Rattle.replay.specs.declared.Step.{Step}
-use Rattle.replay.specs.Replay.{enterCall, getCall, putCall, leaveCall, callOf, stepOf, StepAnswer, granted, waits, value, stored, left, refused, enterLine, getLine, putLine, leaveLine, answerIn, stateOf, perform}
+use Rattle.replay.specs.Replay.{enterCall, getCall, putCall, leaveCall, callOf, stepOf, StepAnswer, granted, waits, value}
+use Rattle.replay.specs.Replay.{stored, left, refused, enterLine, getLine, putLine, leaveLine, answerIn, stateOf, perform}
 use Rattle.replay.specs.Answers.{stepMeaning, outcomeOf, partiesOf, Performs}
 use Rattle.replay.specs.Inner.{leftOutcome, PerformsCall, PerformsAny}
 

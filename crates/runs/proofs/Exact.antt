@@ -18,7 +18,8 @@ use Rattle.desk.specs.declared.Desk.{Desk}
 use Rattle.locks.specs.Lent.{Hierarchy, coverIn, insideHold, lockOn}
 use Rattle.desk.specs.Desks.{stageAt}
 use Rattle.parties.specs.Sound.{soundParties}
-use Rattle.desk.specs.Steps.{putOwn, leaveOwn, enterOwn, stepChecks, valueChecks, enterUnless, enterStep, nodeChecks, getUnless, getStep, putUnless, putStep, leaveUnless, leaveStep}
+use Rattle.desk.specs.Steps.{putOwn, leaveOwn, enterOwn, stepChecks, valueChecks, enterUnless, enterStep}
+use Rattle.desk.specs.Steps.{nodeChecks, getUnless, getStep, putUnless, putStep, leaveUnless, leaveStep}
 use Rattle.runs.specs.Run.{lend, Call, enter, get, put, leave, State, afterEnter, afterGet, afterPut, afterLeave, moveCall}
 
 -- the hierarchy with just its edges in the table

@@ -13,7 +13,8 @@ use Rattle.lists.specs.Lists.{keep}
 use Rattle.lists.proofs.Bools.{bool, not-both}
 use Rattle.lists.proofs.Bounded.{any-stop, any-none}
 use Rattle.lists.proofs.Members.{In}
-use Rattle.lists.proofs.Distinct.{any-some, any-alike, place-in, in-front, in-between, in-around, in-either, in-keep, keep-in, Distinct, distinct-last, distinct-between, distinct-keep}
+use Rattle.lists.proofs.Distinct.{any-some, any-alike, place-in, in-front, in-between, in-around, in-either}
+use Rattle.lists.proofs.Distinct.{in-keep, keep-in, Distinct, distinct-last, distinct-between, distinct-keep}
 use Rattle.locks.specs.declared.Lock.{Lock}
 use Rattle.locks.specs.declared.Stage.{Stage}
 use Rattle.locks.specs.declared.Stage.the-variants.{Out, Waiting, Holding}

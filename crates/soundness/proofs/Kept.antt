@@ -36,7 +36,8 @@ use Rattle.arrivals.proofs.Queues.{places-length}
 use Rattle.desk.specs.declared.Desk.{Desk}
 use Rattle.desk.specs.Desks.{stageAt, queueOf, freshDesk}
 use Rattle.desk.specs.Sound.{soundDesk}
-use Rattle.desk.specs.Steps.{leaveOwn, enterOwn, free, grantTo, queueLast, enterRefusal, enterIf, enterUnless, enterStep, getStep, putStep, afterLeaving, leaveWith, leaveRefusal, leaveUnless, leaveStep}
+use Rattle.desk.specs.Steps.{leaveOwn, enterOwn, free, grantTo, queueLast, enterRefusal, enterIf, enterUnless}
+use Rattle.desk.specs.Steps.{enterStep, getStep, putStep, afterLeaving, leaveWith, leaveRefusal, leaveUnless, leaveStep}
 use Rattle.desk.proofs.Facts.{step-own, step-facts}
 use Rattle.history.proofs.Facts.{sweep-length}
 use Rattle.soundness.proofs.Laws.{unchanged-get, unchanged-put}

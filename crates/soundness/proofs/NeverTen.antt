@@ -28,8 +28,10 @@ use Rattle.locks.specs.Stages.{ofLock}
 use Rattle.parties.specs.Sound.{listsParties, listsOnce, listsWaiting, intervalsReal, holdersApart, waitersHeldUp, soundParties}
 use Rattle.desk.specs.Desks.{stageAt}
 use Rattle.desk.specs.Sound.{soundDesk}
-use Rattle.desk.specs.Steps.{putOwn, leaveOwn, enterOwn, stepChecks, enterRefusal, free, enterIf, enterUnless, enterStep, nodeChecks, valueChecks, getUnless, getStep, putUnless, putStep, leaveRefusal, leaveUnless, leaveStep}
-use Rattle.runs.specs.Run.{lend, Call, enter, get, put, leave, Step, lentTo, State, start, Moved, afterEnter, afterGet, afterPut, listed, afterLeave, moveCall, move, Ran, alsoRan, run}
+use Rattle.desk.specs.Steps.{putOwn, leaveOwn, enterOwn, stepChecks, enterRefusal, free, enterIf, enterUnless, enterStep}
+use Rattle.desk.specs.Steps.{nodeChecks, valueChecks, getUnless, getStep, putUnless, putStep, leaveRefusal, leaveUnless, leaveStep}
+use Rattle.runs.specs.Run.{lend, Call, enter, get, put, leave, Step, lentTo, State, start, Moved}
+use Rattle.runs.specs.Run.{afterEnter, afterGet, afterPut, listed, afterLeave, moveCall, move, Ran, alsoRan, run}
 use Rattle.runs.specs.Over.{startOver, runOver}
 use Rattle.runs.proofs.Lends.{low-lent, high-lent}
 use Rattle.runs.proofs.Runs.{run-hierarchy, run-over}

@@ -4,7 +4,8 @@ use mathlib.Core.Path.{_≡_, sym, _∙_}
 use native.Mathlib.Omega.{arith}
 use lib.ListN.{length, take}
 use lib.Seq.{length-take-le}
-use Rattle.blocks.proofs.Answers.{left, write-refuses, write-gives, write-short, write-room, write-many, write-wrong, write-none, no-records, wrong-records, right-records, stage-some}
+use Rattle.blocks.proofs.Answers.{left, write-refuses, write-gives, write-short, write-room, write-many}
+use Rattle.blocks.proofs.Answers.{write-wrong, write-none, no-records, wrong-records, right-records, stage-some}
 use borrow.Author.Needs.{needs}
 use Rattle.blocks.proofs.write.Statement.{statement}
 use Rattle.blocks.proofs.write.Tie as tie

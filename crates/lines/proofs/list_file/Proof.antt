@@ -48,10 +48,14 @@ slice-aggregate-list-opened-3 : tie.Need-slice-aggregate-list-opened-3
 slice-aggregate-list-opened-3 c = search needs
 
 list-opened-requires : tie.Need-list-opened-requires
-list-opened-requires c κs = let s = c .before .before .before .before .before in let r = ready s in let e = s .before .before .before in (
-  (r .n-most, r .edges-most, r .records-most),
-  (omega (arith, e .places2 .given), omega (arith, e .before .edges2 .given), omega (arith, e .before .before .records2 .given), e .before .before .before .before .before .before .before .before .before .before .pre),
-)
+list-opened-requires c κs =
+    let s = c .before .before .before .before .before in
+    let r = ready s in
+    let e = s .before .before .before in
+    let values = e .before .before .before .before .before .before .before .before .before .before .pre in (
+      (r .n-most, r .edges-most, r .records-most),
+      (omega (arith, e .places2 .given), omega (arith, e .before .edges2 .given), omega (arith, e .before .before .records2 .given), values),
+    )
 
 same-length : tie.Need-same-length
 same-length c = search needs

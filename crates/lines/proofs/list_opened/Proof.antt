@@ -49,7 +49,10 @@ same-length-2 : tie.Need-same-length-2
 same-length-2 c = search needs
 
 returns : tie.Need-returns
-returns c = let e = c .before .before .before .before .before .before .before .before .before .before .before .before .before .before .before in let z = e .args in let l = c .before .before .before .before .list-built in
+returns c =
+    let e = c .before .before .before .before .before .before .before .before .before .before .before .before .before .before .before in
+    let z = e .args in
+    let l = c .before .before .before .before .list-built in
     let long : length (take (z .n) (z .values .now)) ≡ z .n = length-take-le (z .n) (z .values .now) (omega (arith, e .pre)) in
     ready-shown (lent (z .n) (take (2 * z .n) (z .places .now)) (take (2 * z .edge-count) (z .edges .now)) (z .edge-count))
     (stepRecords (recordList (take (16 * z .total) (z .records .now)))) (length (take (z .n) (z .values .now))) (z .n)

@@ -69,7 +69,11 @@ slice-aggregate-write-opened-5 : tie.Need-slice-aggregate-write-opened-5
 slice-aggregate-write-opened-5 c = search needs
 
 write-opened-requires : tie.Need-write-opened-requires
-write-opened-requires c κs = let e = c .before .before .before .before .before .before .before .before .before in let o = e .before .before .before .open-run in let a = c .before .before .before .before .before .before .answer2 .given in let rooms = e .before .before .before .before .before .before .before .before in
+write-opened-requires c κs =
+    let e = c .before .before .before .before .before .before .before .before .before in
+    let o = e .before .before .before .open-run in
+    let a = c .before .before .before .before .before .before .answer2 .given in
+    let rooms = e .before .before .before .before .before .before .before .before in
     let ready = opened-ready _ _ _ _ (o .result) (omega (arith, rooms .before .record-room .ensures)) (omega (arith, rooms .edge-room .ensures)) (omega arith)
     (o .ensures) (a .0 .0) (a .0 .1 .0) (a .0 .1 .1 .0) (a .1) in (
       (ready .n-most, ready .edges-most, ready .records-most),

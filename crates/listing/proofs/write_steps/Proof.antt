@@ -57,13 +57,17 @@ loop-less c = omega (
 )
 
 loop-again : tie.Need-loop-again Inv-loop μ-loop
-loop-again c = let e = c .before .before .before .before .before .before .before .before in let a = e .before .before .loop in let v = a .inv in let z = c .before .before .before .before .before .before .before .before .before .before .before .before .before .before .before .before .before .args in (
-  omega (arith, e .part-end .ensures),
-  c .before .before .before .values .given ∙ v .1,
-  c .before .text .given ∙ v .2,
-  parts-turn (z .records .now) (a .from) (e .part-end .result) (e .part-end .ensures) (e .before .loop-test .taken)
-      (writtenOf (lent (z .n) (z .intervals .now) (z .edges .now) (z .edge-count)) (a .progress) (a .values) (a .text)) (v .3) (c .before .before .before .before .write-part .ensures),
-)
+loop-again c =
+    let e = c .before .before .before .before .before .before .before .before in
+    let a = e .before .before .loop in
+    let v = a .inv in
+    let z = e .before .before .before .before .before .before .before .before .before .args in (
+      omega (arith, e .part-end .ensures),
+      c .before .before .before .values .given ∙ v .1,
+      c .before .text .given ∙ v .2,
+      parts-turn (z .records .now) (a .from) (e .part-end .result) (e .part-end .ensures) (e .before .loop-test .taken)
+          (writtenOf (lent (z .n) (z .intervals .now) (z .edges .now) (z .edge-count)) (a .progress) (a .values) (a .text)) (v .3) (c .before .before .before .before .write-part .ensures),
+    )
 
 same-length : tie.Need-same-length Inv-loop μ-loop
 same-length c = c .before .loop .inv .1
