@@ -13,7 +13,7 @@ use Rattle.lists.specs.Answer.{Check, _when_, refusal}
 use Rattle.hierarchy.specs.Hierarchy.{edgesOf}
 use Rattle.intervals.specs.Intervals.{lowOf, highOf}
 use Rattle.intervals.specs.Cover.{lowAt, highAt}
-use Rattle.lists.proofs.Bools.{bool, not-both, or-left, or-neither}
+use Rattle.lists.proofs.Bools.{bool, not-both, or-left, or-right, or-neither}
 use Rattle.lists.proofs.Refusals.{refused-here, refused-later}
 use Rattle.lists.proofs.Bounded.{none-of}
 use Rattle.lists.proofs.Distinct.{all-alike}
@@ -105,19 +105,18 @@ abbrev isNumber : ℕ → Option ℕ → Bool
 isNumber k none = false
 isNumber k (some j) = eqb j k
 
--- no check numbered k holds
-abbrev NoneWith : ℕ → List Check → Type 0
-NoneWith k [] = Unit {0}
-NoneWith k (c ∷ cs) = ((eqb (c .number) k && c .holds) ≡ false) × NoneWith k cs
+-- a check numbered k holds; of a list that has none so numbered this is false by computation, however long the list is
+abbrev holdsWith : ℕ → List Check → Bool
+holdsWith k cs = any (λ c. eqb (c .number) k && c .holds) cs
 
--- so the refusal is not k
-not-refused : (k : ℕ) (cs : List Check) → NoneWith k cs → isNumber k (refusal cs) ≡ false
-unfolding refusal
+-- where none does the refusal is not k
+not-refused : (k : ℕ) (cs : List Check) → holdsWith k cs ≡ false → isNumber k (refusal cs) ≡ false
+unfolding refusal any
 not-refused k [] f = refl
 not-refused k (c ∷ cs) f =
     bool (c .holds)
-    (λ e. rw (refused-here c cs e) (sym (and-true (eqb (c .number) k)) ∙ rw e at (f .0)))
-    (λ e. rw (refused-later c cs e) (not-refused k cs (f .1)))
+    (λ e. rw (refused-here c cs e) (sym (and-true (eqb (c .number) k)) ∙ rw e at (or-left (eqb (c .number) k && c .holds) _ f)))
+    (λ e. rw (refused-later c cs e) (not-refused k cs (or-right (eqb (c .number) k && c .holds) _ f)))
 
 -- a step with tables that are too short is refused with 1
 short-first : (K : Hierarchy) (d : Desk) (party : ℕ) (short : Bool) (own : List Check) → tablesShort K ≡ true → refusal (stepChecks K d party short own) ≡ some 1
@@ -181,12 +180,12 @@ module _ (x : Step) (s : State) (f : Fine s) where
   agree = lent-agrees H x (built-two-each H (f .built))
 
   -- 10 does not hold
-  not-ten : (party : ℕ) (short : Bool) (own : List Check) → NoneWith 10 own → isNumber 10 (refusal (stepChecks K d party short own)) ≡ false
-  unfolding lentTo
+  not-ten : (party : ℕ) (short : Bool) (own : List Check) → holdsWith 10 own ≡ false → isNumber 10 (refusal (stepChecks K d party short own)) ≡ false
+  unfolding lentTo any
   not-ten party short own o =
       bool (tablesShort K)
       (λ e. rw (short-first K d party short own e))
-      (λ e. not-refused 10 (stepChecks K d party short own) (refl, (refl, (refl, (refl, (fine e, (refl, o)))))))
+      (λ e. not-refused 10 (stepChecks K d party short own) (or-neither (anyBelow (H .n) (intervalWrong K) || not (soundDesk K d)) _ (fine e) o))
     where
       fine : tablesShort K ≡ false → (anyBelow (H .n) (intervalWrong K) || not (soundDesk K d)) ≡ false
       fine e =
@@ -195,8 +194,9 @@ module _ (x : Step) (s : State) (f : Fine s) where
           (ap not (sound-agrees K H (agree e) d ∙ f .sound))
 
   -- get and put alike
-  value-not-ten : (party node : ℕ) (values : List ℕ) (own : List Check) → NoneWith 10 own → isNumber 10 (refusal (valueChecks K d party node values own)) ≡ false
-  value-not-ten party node values own o = not-ten party (ltb (length values) (K .n)) (nodeChecks K d party node own) (refl, (refl, (refl, (refl, o))))
+  value-not-ten : (party node : ℕ) (values : List ℕ) (own : List Check) → holdsWith 10 own ≡ false → isNumber 10 (refusal (valueChecks K d party node values own)) ≡ false
+  unfolding any
+  value-not-ten party node values own o = not-ten party (ltb (length values) (K .n)) (nodeChecks K d party node own) o
 
   -- the desk handed back is sound, since the step saw the built intervals or was refused with 1
   kept : (new : Desk) → (tablesShort K ≡ true → new ≡ d) → (soundDesk K d ≡ true → soundDesk K new ≡ true) → soundDesk H new ≡ true
@@ -207,7 +207,7 @@ module _ (x : Step) (s : State) (f : Fine s) where
 
   -- each of the four
   call-stepped : (c : Call) → Stepped (moveCall K c s)
-  unfolding moveCall afterEnter afterGet afterPut afterLeave enterStep getStep putStep leaveStep
+  unfolding moveCall afterEnter afterGet afterPut afterLeave enterStep getStep putStep leaveStep any
   call-stepped (enter party mode names nameCount) =
       let l : Lock = lockOn K mode (coverIn K (take nameCount names)) in
       let own : List Check = enterOwn K d party names nameCount in
@@ -217,20 +217,20 @@ module _ (x : Step) (s : State) (f : Fine s) where
           shaped = enter-shaped K d party mode names nameCount (f .shaped);
           sound = kept _ (λ e. enter-same d 1 party l _ (short-first K d party (ltb (length names) nameCount) own e)) (enter-sound K d party mode names nameCount (f .shaped));
         };
-        event = enter-number d 10 party l (enterRefusal K d party names nameCount) ∙ not-ten party (ltb (length names) nameCount) own (refl, (refl, tt));
+        event = enter-number d 10 party l (enterRefusal K d party names nameCount) ∙ not-ten party (ltb (length names) nameCount) own refl;
       }
   call-stepped (get party node l) =
       let values : List ℕ = lend (s .values) l in
       record {
         fine = record { built = f .built; shaped = get-shaped K d party node values (f .shaped); sound = rw (unchanged-get K d party node values) (f .sound) };
-        event = get-number d 10 (getD values node 0) (refusal (valueChecks K d party node values [])) ∙ value-not-ten party node values [] tt;
+        event = get-number d 10 (getD values node 0) (refusal (valueChecks K d party node values [])) ∙ value-not-ten party node values [] refl;
       }
   call-stepped (put party node value l) =
       let values : List ℕ = lend (s .values) l in
       let own : List Check = putOwn d party in
       record {
         fine = record { built = f .built; shaped = put-shaped K d party node value values (f .shaped); sound = rw (unchanged-put K d party node value values) (f .sound) };
-        event = put-number d 10 node value values (refusal (valueChecks K d party node values own)) ∙ value-not-ten party node values own (refl, tt);
+        event = put-number d 10 node value values (refusal (valueChecks K d party node values own)) ∙ value-not-ten party node values own refl;
       }
   call-stepped (leave party list) =
       let own : List Check = leaveOwn d party in
@@ -240,7 +240,7 @@ module _ (x : Step) (s : State) (f : Fine s) where
           shaped = leave-shaped K d party list (f .shaped);
           sound = kept _ (λ e. leave-same d 1 party list _ (short-first K d party (ltb (length list) 32) own e)) (leave-sound K d party list (f .shaped));
         };
-        event = leave-number d 10 party list _ (leaveRefusal K d party list) ∙ not-ten party (ltb (length list) 32) own (refl, tt);
+        event = leave-number d 10 party list _ (leaveRefusal K d party list) ∙ not-ten party (ltb (length list) 32) own refl;
       }
 
 -- A LIST of steps
