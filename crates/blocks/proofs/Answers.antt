@@ -1,7 +1,7 @@
 -- Which answer reading and writing give, and what they leave in the room. Assumes nothing.
-use mathlib.Core.Path.{_≡_, refl, sym, ap, _∙_}
+use mathlib.Core.Path.{_≡_, sym, ap, _∙_}
 use mathlib.Core.Bool.{Bool, true, false, _&&_, _||_}
-use mathlib.Core.List.{List, []}
+use mathlib.Core.List.{List}
 use mathlib.Core.Option.{Option, none, some}
 use Prim.Native.Nat.{ℕ, zero, suc, _*_, _/_, _%_, _<_, _≤_}
 use native.Mathlib.Omega.{arith}
@@ -9,18 +9,13 @@ use borrow.Author.Tests.{lt-ltb, le-ltb, le-leb, lt-leb, eq-eqb, ne-eqb, eqb-tru
 use lib.Dec.{eqb, leb, ltb}
 use lib.ListN.{length}
 use Rattle.lists.specs.Lists.{over}
-use Rattle.lists.specs.Answer.{Answer, done, refused, refusal}
+use Rattle.lists.specs.Answer.{Answer, done, refused}
 use Rattle.lists.proofs.Bools.{bool, and-left, and-right, or-neither}
-use Rattle.lists.proofs.Refusals.{refused-here, refused-later}
+use Rattle.lists.proofs.Refusals.{refusal-nil, refused-here, refused-later}
 use Rattle.blocks.specs.Block.{afterRecords}
 use Rattle.blocks.specs.File.{wholeBlocks, fileStage, fileRecords, notBlocks, readRefusal, FileResult, leaving}
 use Rattle.blocks.specs.File.{readFile, blocksFor, fileOf, recordsWrong, writeRefusal, writeFile}
 use Rattle.blocks.proofs.Stages.{blocks-most}
-
--- no check is left
-none-left : refusal [] ≡ none
-unfolding refusal
-none-left = refl
 
 -- a file that is not refused with 2
 pub blocks-facts : (file : List ℕ) → notBlocks file ≡ false → (length file ≡ 512 * wholeBlocks file) × (1 ≤ wholeBlocks file) × (wholeBlocks file ≤ 128)
@@ -71,7 +66,7 @@ module _ (file room : List ℕ) where
           refused-later _ _ (le-ltb _ _ long) ∙ refused-later _ _ whole
           ∙ refused-later _ _ (ne-eqb (fileStage file) 3 (λ e. omega arith))
           ∙ refused-later _ _ (ne-eqb (fileStage file) 4 (λ e. omega arith))
-          ∙ none-left
+          ∙ refusal-nil
 
 -- WRITING
 module _ (records : List ℕ) (count : ℕ) (room : List ℕ) where
@@ -102,7 +97,7 @@ module _ (records : List ℕ) (count : ℕ) (room : List ℕ) where
         write-wrong h = refused-later _ _ fits ∙ refused-later _ _ (le-ltb _ _ few) ∙ refused-here _ _ h
 
         pub write-none : recordsWrong records count ≡ false → writeRefusal records count room ≡ none
-        write-none h = refused-later _ _ fits ∙ refused-later _ _ (le-ltb _ _ few) ∙ refused-later _ _ h ∙ none-left
+        write-none h = refused-later _ _ fits ∙ refused-later _ _ (le-ltb _ _ few) ∙ refused-later _ _ h ∙ refusal-nil
 
 -- records whose stage is 0 are wrong, and those whose stage is above 2; those between are not
 pub no-records : (records : List ℕ) (count : ℕ) → afterRecords 0 count records < 1 → recordsWrong records count ≡ true

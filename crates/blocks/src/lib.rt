@@ -21,7 +21,10 @@ const MOST: u32 = 31;
 // and their bytes.
 const FULL: usize = 496;
 
-// Where a block's check stands.
+// Where a block's records begin
+const HEAD: usize = 8;
+
+// and where its check stands.
 const CHECK: usize = 508;
 
 // What reading a file answers: the count of its records.
@@ -113,7 +116,7 @@ fn after_record(stage: u8, r: &[u8]) -> u8
 }
 
 // The stage after n records.
-fn after_records(stage: u8, n: usize, s: &[u8]) -> u8
+fn after_records(stage: u8, s: &[u8], n: usize) -> u8
     requires { ⌜ 16 * n ≤ length (now s) ⌝ }
     ensures { λ r. ⌜ r ≡ afterRecords stage n (now (s .entry)) ⌝ }
 {
@@ -158,7 +161,7 @@ fn head_right(number: u32, last: bool, block: &[u8]) -> bool
     if octets::number2(block, 6) != 0 {
         return false;
     }
-    octets::zero_between(block, 8 + RECORD * (n as usize), CHECK)
+    octets::zero_between(block, HEAD + RECORD * (n as usize), CHECK)
 }
 
 // The stage after a block of 512 bytes: 3 where the check differs, before 4 where anything else is wrong.
@@ -178,11 +181,11 @@ fn after_block(number: u32, last: bool, stage: u8, block: &[u8]) -> u8
     if !right {
         return 4;
     }
-    after_records(stage, octets::number2(block, 4) as usize, &block[8..])
+    after_records(stage, &block[HEAD..], octets::number2(block, 4) as usize)
 }
 
 // The stage after k blocks.
-fn after_blocks(k: usize, file: &[u8]) -> u8
+fn after_blocks(file: &[u8], k: usize) -> u8
     requires { ⌜ (512 * k ≤ length (now file)) × (k ≤ 128) ⌝ }
     ensures { λ r. ⌜ r ≡ afterBlocks k 0 0 (now (file .entry)) ⌝ }
 {
@@ -204,13 +207,13 @@ fn copy_block(block: &[u8], at: usize, room: &mut [u8]) -> usize
     ensures { λ r. ⌜ (r ≡ length (recordsIn (now (block .entry)))) × (r ≤ 496) × (now (room .exit) ≡ overAt at (recordsIn (now (block .entry))) (now (room .entry))) ⌝ }
 {
     let n = RECORD * (octets::number2(block, 4) as usize);
-    let end = 8 + n;
-    octets::copy_at(&block[8..end], at, room);
+    let end = HEAD + n;
+    octets::copy_at(&block[HEAD..end], at, room);
     n
 }
 
 // Writes the records of k blocks, and answers how many bytes these are.
-fn copy_records(k: usize, file: &[u8], room: &mut [u8]) -> usize
+fn copy_records(file: &[u8], k: usize, room: &mut [u8]) -> usize
     requires { ⌜ (length (now file) ≡ 512 * k) × (k ≤ 128) × (496 * k ≤ length (now room)) × (afterBlocks k 0 0 (now file) ≤ 2) ⌝ }
     ensures { λ r. ⌜ (r ≡ length (recordsOf k (now (file .entry)))) × (now (room .exit) ≡ over (recordsOf k (now (file .entry))) (now (room .entry))) ⌝ }
 {
@@ -250,11 +253,11 @@ pub fn read(file: &[u8], room: &mut [u8]) -> ReadAnswer
     if not_blocks(file) {
         return ReadAnswer::Refused(2);
     }
-    let reached = after_blocks(k, file);
+    let reached = after_blocks(file, k);
     if 3 <= reached {
         return ReadAnswer::Refused(reached);
     }
-    let bytes = copy_records(k, file, room);
+    let bytes = copy_records(file, k, room);
     ReadAnswer::Records(bytes / RECORD)
 }
 
@@ -266,14 +269,14 @@ fn write_block(number: u32, records: &[u8], block: &mut [u8])
     let n = records.len();
     octets::put4(number, 0, block);
     octets::put4((n / RECORD) as u32, 4, block);
-    octets::copy_at(records, 8, block);
-    octets::put_zeros(CHECK - (8 + n), 8 + n, block);
+    octets::copy_at(records, HEAD, block);
+    octets::put_zeros(CHECK - (HEAD + n), HEAD + n, block);
     let check = octets::block_check(&block[..CHECK]);
     octets::put4(check, CHECK, block);
 }
 
 // Writes the k blocks of records, 31 to a block.
-fn write_blocks(k: usize, records: &[u8], room: &mut [u8])
+fn write_blocks(records: &[u8], k: usize, room: &mut [u8])
     requires { ⌜ (512 * k ≤ length (now room)) × (k ≤ 128) × (length (now records) ≤ 496 * k) × (496 * k < length (now records) + 496) ⌝ }
     ensures { λ _. ⌜ now (room .exit) ≡ over (blocksOf k 0 (now (records .entry))) (now (room .entry)) ⌝ }
 {
@@ -302,7 +305,7 @@ pub fn write(records: &[u8], count: usize, room: &mut [u8]) -> WriteAnswer
     if count > 3968 {
         return WriteAnswer::Refused(2);
     }
-    let reached = after_records(0, count, records);
+    let reached = after_records(0, records, count);
     if reached < 1 {
         return WriteAnswer::Refused(4);
     }
@@ -310,6 +313,6 @@ pub fn write(records: &[u8], count: usize, room: &mut [u8]) -> WriteAnswer
         return WriteAnswer::Refused(4);
     }
     let end = RECORD * count;
-    write_blocks(k, &records[..end], room);
+    write_blocks(&records[..end], k, room);
     WriteAnswer::Blocks(k)
 }

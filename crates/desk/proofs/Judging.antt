@@ -2,7 +2,7 @@
 use mathlib.Core.Path.{_≡_, refl, ap, _∙_}
 use mathlib.Core.List.{List, [], _∷_}
 use mathlib.Core.Bool.{Bool, true, false, not, _||_}
-use mathlib.Core.Option.{none, some}
+use mathlib.Core.Option.{some}
 use Prim.Native.Nat.{ℕ, _≤_, _<_}
 use native.Mathlib.Omega.{arith}
 use lib.Dec.{ltb}
@@ -11,7 +11,7 @@ use Rattle.lists.specs.Lists.{anyBelow}
 use Rattle.lists.specs.Answer.{Check, _when_, refusal}
 use Rattle.hierarchy.specs.Hierarchy.{edgesOf, someEdge, sizeWrong, edgesTooMany, edgeWrong}
 use Rattle.intervals.specs.Cover.{callInterval}
-use Rattle.lists.proofs.Refusals.{refused-here, refused-later}
+use Rattle.lists.proofs.Refusals.{refusal-nil, refused-here, refused-later}
 use Rattle.hierarchy.proofs.Legals.{right-size}
 use Rattle.intervals.proofs.Covers.{closest-below}
 use Rattle.locks.specs.Stages.{isOut, isWaiting}
@@ -25,11 +25,6 @@ use Rattle.desk.specs.Sound.{soundDesk}
 use Rattle.desk.specs.Steps.{stepChecks, StepFacts, nodeChecks, NodeFacts}
 use Rattle.desk.specs.Inner.{refusalAfter, TablesJudged, Judged, NodeJudged}
 use Rattle.desk.proofs.Facts.{step-facts, node-facts}
-
--- with nothing left to look at no refusal is given
-pub refusal-nil : refusal [] ≡ none
-unfolding refusal
-refusal-nil = refl
 
 -- WHAT IS ASKED OF THE LENT BUFFERS
 module _ (H : Hierarchy) (short : Bool) where

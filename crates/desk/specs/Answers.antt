@@ -1,7 +1,7 @@
 -- What each case of the steps' answers is in the paper: its number and values. Assumes nothing.
 use mathlib.Core.Path.{_≡_}
 use mathlib.Core.List.{List}
-use mathlib.Core.Bool.{Bool, true, false}
+use mathlib.Core.Bool.{cond}
 use Prim.Native.Nat.{ℕ}
 use lib.Dec.{eqb}
 use Rattle.lists.specs.Answer.{Answer, done, refused}
@@ -41,15 +41,10 @@ abbrev pub leaveMeaning : LeaveAnswer → Answer ℕ
 leaveMeaning (Left grants) = done grants
 leaveMeaning (LeaveRefused k) = refused k
 
--- two cases of get's answer mean 14: Waiting is the one given
-abbrev pub getRefusedCase : (waiting : Bool) → ℕ → GetAnswer
-getRefusedCase true k = Waiting
-getRefusedCase false k = GetRefused k
-
--- the case of get's answer that is given
+-- the case of get's answer that is given: two cases mean 14, and Waiting is the one
 abbrev pub getCase : Answer ℕ → GetAnswer
 getCase (done value) = Value value
-getCase (refused k) = getRefusedCase (eqb k 14) k
+getCase (refused k) = cond (eqb k 14) Waiting (GetRefused k)
 
 -- WHAT A METHOD PROMISES: it hands back the desk of the definition, and its answer means the definition's. Of enter
 abbrev pub Enters : EnterStep → EnterResult → Type 0

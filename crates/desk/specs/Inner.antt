@@ -1,6 +1,6 @@
 -- Terms of the contracts of private functions only: no definition of the paper is here. Assumes nothing.
 use mathlib.Core.List.{List}
-use mathlib.Core.Bool.{Bool, true, false}
+use mathlib.Core.Bool.{Bool, cond}
 use mathlib.Core.Path.{_≡_}
 use mathlib.Core.Option.{Option, some}
 use Prim.Native.Nat.{ℕ}
@@ -11,14 +11,9 @@ use Rattle.sweeps.specs.declared.Swept.{Swept}
 use Rattle.desk.specs.declared.Desk.{Desk}
 use Rattle.desk.specs.Steps.{tableChecks, countGrants, stepChecks, nodeChecks}
 
--- the one or the other
-abbrev pub pickRefusal : Bool → ℕ → Option ℕ → Option ℕ
-pickRefusal true k own = own
-pickRefusal false k own = some k
-
 -- what is left to look at where the checks before gave k: 0 says that none of them holds
 abbrev pub refusalAfter : ℕ → Option ℕ → Option ℕ
-refusalAfter k own = pickRefusal (eqb k 0) k own
+refusalAfter k own = cond (eqb k 0) own (some k)
 
 -- a step is refused with k by these checks, or by none of them (0)
 abbrev pub TablesJudged : Hierarchy → Bool → ℕ → Type 0

@@ -1,4 +1,4 @@
--- The steps' refusals over table T, on the desk after the short visit's first four steps, on tables and on desks that are wrong in one way. Assumes nothing.
+-- The steps' refusals over table T, on the desk `four`, on tables and on desks that are wrong in one way. Assumes nothing.
 use mathlib.Core.List.{List, [], _∷_, _++_}
 use Prim.Native.Nat.{ℕ, _+_}
 use lib.ListN.{length, set, take, replicate}
@@ -49,7 +49,7 @@ counting d waiting = record { entries = d .entries; queue = d .queue; waiting = 
 abbrev pub granting : Desk → ℕ → Desk
 granting d grants = record { entries = d .entries; queue = d .queue; waiting = d .waiting; grants = grants }
 
--- after the short visit's first four steps: 1 writes 5, 3 reads 3, 2 and 4 wait to read 2 and 0, in this order
+-- a desk after four enters: 1 writes 5, 3 reads 3, 2 and 4 wait to read 2 and 0, in this order
 abbrev pub four : Desk
 four =
     granting

@@ -68,8 +68,8 @@ module _ (r : List ℕ) where
         (λ c. told-by (putCall r) (λ e. put-event e _) (call-5 r a b c))
         (λ c. told-by (leaveCall r) (λ e. leave-event e _) (call-6 r a b c))))
 
--- of all steps of a file
-events-are : (rs : List (List ℕ)) (s : State) → (performAll s rs) .events ≡ eventsOf rs (answersOf (performAll s rs))
+-- of all steps of a file: what the book is fed are the events of the run, in which the record's kind says which step it is
+pub events-are : (rs : List (List ℕ)) (s : State) → (performAll s rs) .events ≡ eventsOf rs (answersOf (performAll s rs))
 unfolding run alsoRan move eventsOf
 events-are [] s = refl
 events-are (r ∷ rs) s =

@@ -8,10 +8,10 @@ use lib.Dec.{eqb}
 use lib.ListN.{length, getD, drop, length-take, length-drop}
 use lib.Seq.{drop-cons, getD-take}
 use borrow.Author.Tests.{eqb-true, eq-eqb, ne-eqb}
-use Rattle.lists.specs.Lists.{keptIf}
+use Rattle.lists.specs.Lists.{keptIf, setIf}
 use Rattle.lists.proofs.Bools.{bool}
 use Rattle.lists.proofs.Members.{In, head, in-nil, in-cons, kept-in}
-use Rattle.hierarchy.specs.Hierarchy.{edgesOf, children, someEdge, Edge, sameEdge, edgeTwice, flaggedIf, spread}
+use Rattle.hierarchy.specs.Hierarchy.{edgesOf, children, someEdge, Edge, sameEdge, edgeTwice, spread}
 use Rattle.hierarchy.specs.Hierarchy.Edge.{first, later}
 use Rattle.hierarchy.specs.Inner.{endsAt, Edges}
 use Rattle.hierarchy.specs.declared.Ends.{Ends}
@@ -101,7 +101,7 @@ module _ (edges : List ℕ) (count e : ℕ) (h : e < min count (length edges / 2
   rest-twice = ap edgeTwice rest-cons
 
   pub rest-spread : (flags : List ℕ)
-      → spread (rest edges count e) flags ≡ spread (rest edges count (e + 1)) (flaggedIf (not (eqb (getD flags parent 0) 0)) child flags)
+      → spread (rest edges count e) flags ≡ spread (rest edges count (e + 1)) (setIf (not (eqb (getD flags parent 0) 0)) flags child 1)
   unfolding spread
   rest-spread flags = ap (λ (t : List ℕ). spread t flags) rest-cons
 

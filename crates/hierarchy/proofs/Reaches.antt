@@ -8,8 +8,8 @@ use lib.Dec.{eqb, ltb}
 use lib.ListN.{length, getD, set, replicate, length-set, length-replicate}
 use lib.Seq.{getD-set-same, getD-set-other}
 use borrow.Author.Tests.{eqb-true, eqb-false, eq-eqb, ne-eqb, ltb-true, ltb-false}
-use Rattle.lists.specs.Lists.{zeros}
-use Rattle.hierarchy.specs.Hierarchy.{Edge, Reach, flaggedIf, spread, spreads, reach}
+use Rattle.lists.specs.Lists.{zeros, setIf}
+use Rattle.hierarchy.specs.Hierarchy.{Edge, Reach, spread, spreads, reach}
 use Rattle.hierarchy.specs.Hierarchy.Edge.{first, later}
 use Rattle.hierarchy.specs.Hierarchy.Reach.{self, step}
 use Rattle.lists.proofs.Bools.{bool}
@@ -19,15 +19,15 @@ use Rattle.lists.proofs.Marks.{zeros-set, zeros-cons, zeros-replicate, set-get,
 abbrev pub On : List ℕ → ℕ → Type 0
 On m x = 1 ≤ getD m x 0
 
-pub flag-long : (b : Bool) (m : List ℕ) (c : ℕ) → length (flaggedIf b c m) ≡ length m
+pub flag-long : (b : Bool) (m : List ℕ) (c : ℕ) → length (setIf b m c 1) ≡ length m
 flag-long true m c = length-set m c 1
 flag-long false m c = refl
 
-flag-on : (b : Bool) (m : List ℕ) (c x : ℕ) → On m x → On (flaggedIf b c m) x
+flag-on : (b : Bool) (m : List ℕ) (c x : ℕ) → On m x → On (setIf b m c 1) x
 flag-on true m c x h = set-get (λ (v : ℕ). 1 ≤ v) m c 1 x 0 (omega arith) h
 flag-on false m c x h = h
 
-flag-zeros : (b : Bool) (m : List ℕ) (c : ℕ) → zeros (flaggedIf b c m) ≤ zeros m
+flag-zeros : (b : Bool) (m : List ℕ) (c : ℕ) → zeros (setIf b m c 1) ≤ zeros m
 flag-zeros true m c = zeros-set m c 1 (omega arith)
 flag-zeros false m c = omega arith
 
@@ -35,14 +35,14 @@ pub spread-long : (es m : List ℕ) → length (spread es m) ≡ length m
 unfolding spread
 spread-long [] m = refl
 spread-long (p ∷ []) m = refl
-spread-long (p ∷ (c ∷ es)) m = spread-long es (flaggedIf (not (eqb (getD m p 0) 0)) c m) ∙ flag-long (not (eqb (getD m p 0) 0)) m c
+spread-long (p ∷ (c ∷ es)) m = spread-long es (setIf (not (eqb (getD m p 0) 0)) m c 1) ∙ flag-long (not (eqb (getD m p 0) 0)) m c
 
 spread-zeros : (es m : List ℕ) → zeros (spread es m) ≤ zeros m
 unfolding spread
 spread-zeros [] m = omega arith
 spread-zeros (p ∷ []) m = omega arith
 spread-zeros (p ∷ (c ∷ es)) m =
-    let a = spread-zeros es (flaggedIf (not (eqb (getD m p 0) 0)) c m) in
+    let a = spread-zeros es (setIf (not (eqb (getD m p 0) 0)) m c 1) in
     let b = flag-zeros (not (eqb (getD m p 0) 0)) m c in
     omega arith
 
@@ -51,16 +51,16 @@ spread-on : (es m : List ℕ) (x : ℕ) → On m x → On (spread es m) x
 unfolding spread
 spread-on [] m x h = h
 spread-on (p ∷ []) m x h = h
-spread-on (p ∷ (c ∷ es)) m x h = spread-on es (flaggedIf (not (eqb (getD m p 0) 0)) c m) x (flag-on (not (eqb (getD m p 0) 0)) m c x h)
+spread-on (p ∷ (c ∷ es)) m x h = spread-on es (setIf (not (eqb (getD m p 0) 0)) m c 1) x (flag-on (not (eqb (getD m p 0) 0)) m c x h)
 
 -- an edge carries a flag on
 spread-edge : {es : List ℕ} {p c : ℕ} (m : List ℕ) → Edge es p c → On m p → c < length m → On (spread es m) c
 unfolding spread
 spread-edge {p = p} {c = c} m (first {es = es}) h l =
-    spread-on es (flaggedIf (not (eqb (getD m p 0) 0)) c m) c
+    spread-on es (setIf (not (eqb (getD m p 0) 0)) m c 1) c
     (rw (ne-eqb (getD m p 0) 0 (λ e. omega arith)) (omega (arith, getD-set-same m c 1 0 l)))
 spread-edge {p = p} {c = c} m (later {a} {b} {es = es} e) h l =
-    spread-edge (flaggedIf (not (eqb (getD m a 0) 0)) b m) e (flag-on (not (eqb (getD m a 0) 0)) m b p h) (omega (arith, flag-long (not (eqb (getD m a 0) 0)) m b))
+    spread-edge (setIf (not (eqb (getD m a 0) 0)) m b 1) e (flag-on (not (eqb (getD m a 0) 0)) m b p h) (omega (arith, flag-long (not (eqb (getD m a 0) 0)) m b))
 
 -- what holds of each flagged node, and goes along the edges, holds of each node flagged then
 spread-only : (P : ℕ → Type 0) (es m : List ℕ) → ((p c : ℕ) → Edge es p c → P p → P c) → ((x : ℕ) → On m x → P x) → (x : ℕ) → On (spread es m) x → P x
@@ -68,12 +68,12 @@ unfolding spread
 spread-only P [] m f g = g
 spread-only P (p ∷ []) m f g = g
 spread-only P (p ∷ (c ∷ es)) m f g =
-    spread-only P es (flaggedIf (not (eqb (getD m p 0) 0)) c m) (λ a b e. f a b (later e))
+    spread-only P es (setIf (not (eqb (getD m p 0) 0)) m c 1) (λ a b e. f a b (later e))
     (λ x h. bool (eqb (getD m p 0) 0)
-    (λ e. g x (subst (λ (t : Bool). On (flaggedIf (not t) c m) x) e h))
+    (λ e. g x (subst (λ (t : Bool). On (setIf (not t) m c 1) x) e h))
     (λ e. bool (eqb x c)
     (λ q. let d : getD m p 0 ≡ 0 → ⊥ = eqb-false _ _ e in subst P (sym (eqb-true x c q)) (f p c first (g p (omega (arith, d)))))
-    (λ q. g x (omega (arith, subst (λ (t : Bool). On (flaggedIf (not t) c m) x) e h, getD-set-other m c x 1 0 (eqb-false x c q))))))
+    (λ q. g x (omega (arith, subst (λ (t : Bool). On (setIf (not t) m c 1) x) e h, getD-set-other m c x 1 0 (eqb-false x c q))))))
 
 pub spreads-long : (k : ℕ) (es m : List ℕ) → length (spreads k es m) ≡ length m
 unfolding spreads

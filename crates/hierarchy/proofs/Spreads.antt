@@ -8,9 +8,9 @@ use lib.Dec.{eqb, ltb}
 use lib.ListN.{length, getD, set, drop, length-set, drop-of-length-le}
 use lib.Seq.{set-getD, set-out}
 use borrow.Author.Tests.{eqb-true, eqb-false, ltb-true, ltb-false}
-use Rattle.hierarchy.specs.Hierarchy.{edgesOf, flaggedIf, flagged, flagAll, spread, spreads}
+use Rattle.hierarchy.specs.Hierarchy.{edgesOf, flagged, flagAll, spread, spreads}
 use Rattle.hierarchy.specs.Inner.{endsAt, unflagged}
-use Rattle.lists.specs.Lists.{zeros, Went, Below}
+use Rattle.lists.specs.Lists.{zeros, Went, Below, setIf}
 use Rattle.hierarchy.specs.declared.Ends.{Ends}
 use Rattle.lists.proofs.Bools.{bool, not-both, and-left, and-right}
 use Rattle.lists.proofs.Marks.{zeros-fall, set-get}
@@ -33,7 +33,7 @@ spreading-start edges count flags b = record { so-far = omega arith; long = refl
 module _ (edges : List ℕ) (count : ℕ) (flags₀ : List ℕ) (e : ℕ) (changed : Bool) (flags : List ℕ) (k : Spreading edges count flags₀ e changed flags) where
   module _ (h : e < min count (length edges / 2)) (ends : Ends) (at : ends ≡ endsAt edges e) where
     -- what is left, by what the turn reads
-    turned : spread (rest edges count (e + 1)) (flaggedIf (flagged flags (ends .parent)) (ends .child) flags) ≡ spread (edgesOf edges count) flags₀
+    turned : spread (rest edges count (e + 1)) (setIf (flagged flags (ends .parent)) flags (ends .child) 1) ≡ spread (edgesOf edges count) flags₀
     turned = rw at (sym (rest-spread edges count e h flags)) ∙ k .same
 
     pub spreading-none : flagged flags (ends .parent) ≡ false → Spreading edges count flags₀ (e + 1) changed flags
@@ -81,9 +81,9 @@ spread-bits : (es flags : List ℕ) → Below 2 flags → Below 2 (spread es fla
 unfolding spread
 spread-bits [] flags b = b
 spread-bits (p ∷ []) flags b = b
-spread-bits (p ∷ c ∷ es) flags b = spread-bits es (flaggedIf (not (eqb (getD flags p 0) 0)) c flags) (one (not (eqb (getD flags p 0) 0)))
+spread-bits (p ∷ c ∷ es) flags b = spread-bits es (setIf (not (eqb (getD flags p 0) 0)) flags c 1) (one (not (eqb (getD flags p 0) 0)))
   where
-    one : (t : Bool) → Below 2 (flaggedIf t c flags)
+    one : (t : Bool) → Below 2 (setIf t flags c 1)
     one true i = set-get (λ (v : ℕ). v < 2) flags c 1 i 0 (omega arith) (b i)
     one false i = b i
 

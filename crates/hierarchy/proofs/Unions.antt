@@ -8,8 +8,8 @@ use lib.Dec.{eqb, ltb}
 use lib.ListN.{length, set, replicate, length-set, length-replicate}
 use lib.Seq.{getD-set-same, getD-set-other, set-out}
 use borrow.Author.Tests.{eqb-true, eqb-false, eq-eqb, ltb-true, ltb-false}
-use Rattle.lists.specs.Lists.{any, Below}
-use Rattle.hierarchy.specs.Hierarchy.{flaggedIf, flagged, flagAll, reachAll, spread, spreads, reach, inReach}
+use Rattle.lists.specs.Lists.{any, Below, setIf}
+use Rattle.hierarchy.specs.Hierarchy.{flagged, flagAll, reachAll, spread, spreads, reach, inReach}
 use Rattle.lists.proofs.Bools.{bool}
 use Rattle.hierarchy.proofs.Reaches.{flag-long}
 use Rattle.lists.proofs.Marks.{set-get, zero-at}
@@ -21,7 +21,7 @@ pub record Union (u a b : List ℕ) : Type 0 where
   pub each : (x : ℕ) → flagged u x ≡ (flagged a x || flagged b x)
 
 -- a node's flag after a turn
-step-flag : (t : Bool) (m : List ℕ) (c x : ℕ) → c < length m → flagged (flaggedIf t c m) x ≡ ((t && eqb x c) || flagged m x)
+step-flag : (t : Bool) (m : List ℕ) (c x : ℕ) → c < length m → flagged (setIf t m c 1) x ≡ ((t && eqb x c) || flagged m x)
 step-flag false m c x h = refl
 step-flag true m c x h =
     bool (eqb x c)
@@ -29,7 +29,7 @@ step-flag true m c x h =
     (λ q. rw (q, getD-set-other m c x 1 0 (eqb-false x c q)) refl)
 
 -- and where the child is not among the flags
-step-out : (t : Bool) (m : List ℕ) (c : ℕ) → length m ≤ c → flaggedIf t c m ≡ m
+step-out : (t : Bool) (m : List ℕ) (c : ℕ) → length m ≤ c → setIf t m c 1 ≡ m
 step-out true m c h = set-out m c 1 h
 step-out false m c h = refl
 
@@ -44,7 +44,7 @@ mix false true false a b = refl
 mix false false e a b = refl
 
 -- a turn, of the three lists
-turn : (u a b : List ℕ) (p c : ℕ) → Union u a b → Union (flaggedIf (flagged u p) c u) (flaggedIf (flagged a p) c a) (flaggedIf (flagged b p) c b)
+turn : (u a b : List ℕ) (p c : ℕ) → Union u a b → Union (setIf (flagged u p) u c 1) (setIf (flagged a p) a c 1) (setIf (flagged b p) b c 1)
 turn u a b p c k =
     record {
       left = flag-long (flagged a p) a c ∙ k .left ∙ sym (flag-long (flagged u p) u c);
@@ -65,7 +65,7 @@ spread-union : (es u a b : List ℕ) → Union u a b → Union (spread es u) (sp
 unfolding spread
 spread-union [] u a b k = k
 spread-union (p ∷ []) u a b k = k
-spread-union (p ∷ c ∷ es) u a b k = spread-union es (flaggedIf (flagged u p) c u) (flaggedIf (flagged a p) c a) (flaggedIf (flagged b p) c b) (turn u a b p c k)
+spread-union (p ∷ c ∷ es) u a b k = spread-union es (setIf (flagged u p) u c 1) (setIf (flagged a p) a c 1) (setIf (flagged b p) b c 1) (turn u a b p c k)
 
 spreads-union : (n : ℕ) (es u a b : List ℕ) → Union u a b → Union (spreads n es u) (spreads n es a) (spreads n es b)
 unfolding spreads

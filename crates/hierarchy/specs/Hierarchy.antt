@@ -2,11 +2,11 @@
 use mathlib.Core.Path.{_≡_}
 use mathlib.Core.List.{List, [], _∷_}
 use mathlib.Core.Option.{none}
-use mathlib.Core.Bool.{Bool, true, false, not, _&&_, _||_}
+use mathlib.Core.Bool.{Bool, false, not, _&&_, _||_}
 use Prim.Native.Nat.{ℕ, zero, suc, _*_}
 use lib.Dec.{eqb, leb, ltb}
 use lib.ListN.{getD, set, take, replicate}
-use Rattle.lists.specs.Lists.{keptIf, any}
+use Rattle.lists.specs.Lists.{keptIf, setIf, any}
 use Rattle.lists.specs.Answer.{Check, _when_, refusal}
 
 -- an edge table has two numbers an edge, parent and child, and its edge count is given beside it: the edges in it
@@ -35,16 +35,15 @@ pub data Reach : List ℕ → ℕ → ℕ → Type 0 where
   self : {es : List ℕ} {node : ℕ} → Reach es node node
   step : {es : List ℕ} {node child x : ℕ} → Edge es node child → Reach es child x → Reach es node x
 
--- REACH as a set, a flag for each of n nodes: 1 in it, 0 not in it
-abbrev pub flaggedIf : Bool → ℕ → List ℕ → List ℕ
-flaggedIf true node flags = set flags node 1
-flaggedIf false node flags = flags
+-- REACH as a set, a flag for each of n nodes: 1 in it, 0 not in it. The node has a flag
+abbrev pub flagged : List ℕ → ℕ → Bool
+flagged flags node = not (eqb (getD flags node 0) 0)
 
 -- one pass over the edges: where the parent is flagged, the child is
 unfoldable pub spread : List ℕ → List ℕ → List ℕ
 spread [] flags = flags
 spread (parent ∷ []) flags = flags
-spread (parent ∷ child ∷ es) flags = spread es (flaggedIf (not (eqb (getD flags parent 0) 0)) child flags)
+spread (parent ∷ child ∷ es) flags = spread es (setIf (flagged flags parent) flags child 1)
 
 -- k passes
 unfoldable pub spreads : ℕ → List ℕ → List ℕ → List ℕ
@@ -54,10 +53,6 @@ spreads (suc k) es flags = spreads k es (spread es flags)
 -- the reach of a node: the node, and what n passes flag from there (`reach-agrees` in interval_laws: just the nodes x with Reach es node x)
 unfoldable pub reach : ℕ → List ℕ → ℕ → List ℕ
 reach n es node = spreads n es (set (replicate n 0) node 1)
-
--- the node has a flag
-abbrev pub flagged : List ℕ → ℕ → Bool
-flagged flags node = not (eqb (getD flags node 0) 0)
 
 -- the node is in the reach of one of these
 abbrev pub inReach : ℕ → List ℕ → List ℕ → ℕ → Bool

@@ -12,9 +12,9 @@ abbrev pub endsAt : List ℕ → ℕ → Ends
 endsAt edges e = record { parent = getD edges (2 * e) 0; child = getD edges (2 * e + 1) 0 }
 
 -- what a loop over an edge table asks: the table has all its edges, and their ends are below n
-pub record Edges (n count : ℕ) (edges : List ℕ) : Type 0 where
-  pub table : 2 * count ≤ length edges
-  pub below : (parent child : ℕ) → Edge (edgesOf edges count) parent child → (parent < n) × (child < n)
+pub record Edges (n edgeCount : ℕ) (edges : List ℕ) : Type 0 where
+  pub table : 2 * edgeCount ≤ length edges
+  pub below : (parent child : ℕ) → Edge (edgesOf edges edgeCount) parent child → (parent < n) × (child < n)
 
 -- a node is among the flags, and has none
 abbrev pub unflagged : List ℕ → ℕ → Bool

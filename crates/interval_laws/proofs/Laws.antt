@@ -20,15 +20,10 @@ use Rattle.intervals.specs.Build.{buildShort, buildRefusal, buildStep}
 use Rattle.lists.proofs.Bools.{or-left, or-right, not-both}
 use Rattle.lists.proofs.Refusals.{refused-later, refusal-none}
 use Rattle.lists.proofs.Members.{In, head, tail, in-nil, in-cons, least-most, least-is, greatest-least, greatest-is}
-use Rattle.hierarchy.proofs.Reaches.{reach-all, reach-only, reach-within}
+use Rattle.hierarchy.proofs.Reaches.{onto, reach-all, reach-only, reach-within}
 use Rattle.hierarchy.proofs.Legals.{Promise, promised}
 use Rattle.intervals.proofs.Extremes.{reach-numbered as numbered-in, low-most as least-low, low-is as least-is-low, high-least as greatest-high, high-is as greatest-is-high}
 use Rattle.interval_laws.proofs.Numbers.{numbering-most, numbering-once}
-
--- a way goes on where another ends
-reach-on : {es : List ℕ} {a b x : ℕ} → Reach es a b → Reach es b x → Reach es a x
-reach-on self w = w
-reach-on (step e v) w = step e (reach-on v w)
 
 -- an interval of numbers from 1 to n
 pub record Real (n low high : ℕ) : Type 0 where
@@ -166,8 +161,8 @@ module _ (n : ℕ) (table : List ℕ) (edgeCount : ℕ) (legal : Legal n table e
   pub reached-inside : (a b : ℕ) → a < n → b < n → Reach es a b → Inside (lowOf n es a) (highOf n es a) (lowOf n es b) (highOf n es b)
   reached-inside a b ha hb w =
       record {
-        low-end = low-is b hb (λ k. lowOf n es a ≤ k) (λ x v k. low-most a ha x (reach-on w v) k);
-        high-end = high-is b hb (λ k. k ≤ highOf n es a) (λ x v k. high-least a ha x (reach-on w v) k);
+        low-end = low-is b hb (λ k. lowOf n es a ≤ k) (λ x v k. low-most a ha x (onto w v) k);
+        high-end = high-is b hb (λ k. k ≤ highOf n es a) (λ x v k. high-least a ha x (onto w v) k);
       }
 
   -- each interval lies inside node 0's
@@ -184,8 +179,8 @@ module _ (n : ℕ) (table : List ℕ) (edgeCount : ℕ) (legal : Legal n table e
       let f = reach-numbered x (reach-within n ends v ha) in
       record {
         number = number (f .0);
-        in-first = (low-most a ha (f .0) (reach-on v (f .1)) (f .2), high-least a ha (f .0) (reach-on v (f .1)) (f .2));
-        in-second = (low-most b hb (f .0) (reach-on w (f .1)) (f .2), high-least b hb (f .0) (reach-on w (f .1)) (f .2));
+        in-first = (low-most a ha (f .0) (onto v (f .1)) (f .2), high-least a ha (f .0) (onto v (f .1)) (f .2));
+        in-second = (low-most b hb (f .0) (onto w (f .1)) (f .2), high-least b hb (f .0) (onto w (f .1)) (f .2));
       }
 
 -- WHAT BUILDING TAKES AND WRITES. Where it answers unrefused, the hierarchy is legal, nothing was short, and the places begin with the intervals

@@ -7,10 +7,10 @@ use native.Mathlib.Omega.{arith}
 use lib.Dec.{eqb}
 use lib.ListN.{length, getD, set}
 use borrow.Author.Tests.{eqb-true, eqb-false}
-use Rattle.lists.specs.Lists.{Below, Went}
+use Rattle.lists.specs.Lists.{Below, Went, setIf}
 use Rattle.hierarchy.specs.Hierarchy.{Edge, edgesOf}
 use Rattle.hierarchy.specs.Inner.{endsAt, Edges}
-use Rattle.intervals.specs.Inner.{isBetter, setIf, improved, turnAt, Ok, Kept, Settled, Best, lows, highs, tableWeight}
+use Rattle.intervals.specs.Inner.{isBetter, improved, turnAt, Ok, Kept, Settled, Best, lows, highs, tableWeight}
 use Rattle.hierarchy.specs.declared.Ends.{Ends}
 use Rattle.lists.proofs.Bools.{bool, not-both, or-left, or-right}
 use Rattle.hierarchy.proofs.EdgeLoops.{edges-all, edge-here, turn}

@@ -1,45 +1,35 @@
 -- Terms of the contracts of private functions only: no definition of the paper is here. Assumes nothing.
 use mathlib.Core.Path.{_≡_}
 use mathlib.Core.List.{List, [], _∷_}
-use mathlib.Core.Bool.{Bool, true, false}
+use mathlib.Core.Bool.{Bool, true, false, cond}
 use Prim.Native.Nat.{ℕ, _+_, _-_, _*_, _<_, _≤_}
 use lib.Dec.{eqb, ltb}
-use lib.ListN.{length, getD, set, take}
-use Rattle.lists.specs.Lists.{zeros}
+use lib.ListN.{length, getD, take}
+use Rattle.lists.specs.Lists.{setIf, zeros}
 use Rattle.hierarchy.specs.Hierarchy.{Edge, Reach, edgesOf, Legal}
 use Rattle.hierarchy.specs.Inner.{Edges}
 use Rattle.intervals.specs.Numbering.{numbering}
 
 -- what a walk of a node asks: it is unseen, the tables fit together, and the counter has room for each node twice
-pub record Ready (node next count : ℕ) (edges marks numbers : List ℕ) : Type 0 where
+pub record Ready (node next edgeCount : ℕ) (edges marks numbers : List ℕ) : Type 0 where
   pub here : node < length marks
   pub unseen : getD marks node 0 ≡ 0
   pub alike : length numbers ≡ length marks
-  pub ends : Edges (length marks) count edges
+  pub ends : Edges (length marks) edgeCount edges
   pub first : 1 ≤ next
   pub room : next + (zeros marks + zeros numbers) < 65536
 
 -- what the numbering of n nodes asks of its tables, whatever they hold
-pub record Fresh (n count : ℕ) (edges numbers : List ℕ) : Type 0 where
+pub record Fresh (n edgeCount : ℕ) (edges numbers : List ℕ) : Type 0 where
   pub some : 1 ≤ n
   pub few : n ≤ 256
   pub alike : length numbers ≡ n
-  pub ends : Edges n count edges
+  pub ends : Edges n edgeCount edges
 
 -- x is better than y: greater where up is true, less where it is false
 abbrev pub isBetter : Bool → ℕ → ℕ → Bool
 isBetter true x y = ltb y x
 isBetter false x y = ltb x y
-
--- the first of two where the test holds, else the second
-abbrev pub pick : Bool → ℕ → ℕ → ℕ
-pick true x y = x
-pick false x y = y
-
--- a store where the test holds
-abbrev pub setIf : Bool → List ℕ → ℕ → ℕ → List ℕ
-setIf true l i v = set l i v
-setIf false l i v = l
 
 -- one place takes another's value where that is better
 abbrev pub improved : Bool → ℕ → ℕ → List ℕ → List ℕ
@@ -47,8 +37,8 @@ improved up to from l = setIf (isBetter up (getD l from 0) (getD l to 0)) l to (
 
 -- the edge that a pass takes with so many left: back from the last of the table, or from its first on
 abbrev pub turnAt : Bool → ℕ → ℕ → ℕ
-turnAt true count left = left - 1
-turnAt false count left = count - left
+turnAt true edgeCount left = left - 1
+turnAt false edgeCount left = edgeCount - left
 
 -- x is as good as y: y is not better
 abbrev pub Ok : Bool → ℕ → ℕ → Type 0
@@ -104,7 +94,7 @@ tableWeight table = weight false (lows table) + weight true (highs table)
 
 -- a number, with the largest u16 in the place of none
 abbrev pub orMost : ℕ → ℕ
-orMost x = pick (eqb x 0) 65535 x
+orMost x = cond (eqb x 0) 65535 x
 
 -- the table that relaxing starts from: each number twice in turn, as a low and as a high
 unfoldable pub doubled : List ℕ → List ℕ
@@ -112,9 +102,9 @@ doubled [] = []
 doubled (x ∷ xs) = orMost x ∷ x ∷ doubled xs
 
 -- what writing the intervals of n nodes asks: their numbers stand first
-pub record Writable (n count : ℕ) (edges numbers table : List ℕ) : Type 0 where
-  pub legal : Legal n edges count
-  pub whole : 2 * count ≤ length edges
+pub record Writable (n edgeCount : ℕ) (edges numbers table : List ℕ) : Type 0 where
+  pub legal : Legal n edges edgeCount
+  pub whole : 2 * edgeCount ≤ length edges
   pub enough : n ≤ length numbers
-  pub numbered : take n numbers ≡ numbering n (edgesOf edges count)
+  pub numbered : take n numbers ≡ numbering n (edgesOf edges edgeCount)
   pub long : length table ≡ 2 * n

@@ -13,7 +13,7 @@ use borrow.Author.Fill.{fill-more}
 use lib.ListN.{length, getD, take, drop, set, replicate, length-set, drop-of-length-le, length-map}
 use lib.Seq.{drop-cons, drop-length, take-at, length-take-le}
 use Rattle.lists.specs.Lists.{every, any, count, keep}
-use Rattle.lists.proofs.Bools.{bool, and-left, and-right}
+use Rattle.lists.proofs.Bools.{bool}
 
 -- the length of an array that is a field, from what owning the struct tells: `search (field-length, needs)`
 pub field-length : {A B : Type 0} (f : A → B) (l : List A) (n : ℕ) → length (map f l) ≡ n → length l ≡ n
@@ -43,19 +43,6 @@ module _ {A : Type 0} where
   pub every-end : (p : A → Bool) (l : List A) (i : ℕ) {r : Bool} → every p (drop i l) ≡ r → length l ≤ i → true ≡ r
   unfolding every
   every-end p l i inv h = rw (drop-of-length-le l h) at inv
-
-  -- what every element passes, an element passes
-  pub every-at : (p : A → Bool) (l : List A) (i : ℕ) (d : A) → every p l ≡ true → i < length l → p (getD l i d) ≡ true
-  unfolding every
-  every-at p [] i d t h = absurd (not-suc-le-zero h)
-  every-at p (x ∷ xs) zero d t h = and-left (p x) (every p xs) t
-  every-at p (x ∷ xs) (suc i) d t h = every-at p xs i d (and-right (p x) (every p xs) t) (le-of-suc-le-suc h)
-
-  pub every-set : (p : A → Bool) (l : List A) (i : ℕ) (x : A) → every p l ≡ true → p x ≡ true → every p (set l i x) ≡ true
-  unfolding every
-  every-set p [] i x t h = refl
-  every-set p (y ∷ ys) zero x t h = rw h (and-right (p y) (every p ys) t)
-  every-set p (y ∷ ys) (suc i) x t h = rw (and-left (p y) (every p ys) t) (every-set p ys i x (and-right (p y) (every p ys) t) h)
 
   -- a test of some element, with the invariant `any p (drop i l) ≡ r`
   pub any-stop : (p : A → Bool) (l : List A) (i : ℕ) (d : A) {x : A} {r : Bool} → any p (drop i l) ≡ r → getD l i d ≡ x → p x ≡ true → i < length l → true ≡ r

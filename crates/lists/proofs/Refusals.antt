@@ -8,6 +8,11 @@ use lib.ListN.{drop}
 use Rattle.lists.specs.Answer.{Check, refusal}
 use Rattle.lists.proofs.Bools.{bool, not-both}
 
+-- with nothing left to look at no refusal is given
+pub refusal-nil : refusal [] ≡ none
+unfolding refusal
+refusal-nil = refl
+
 -- the first check holds: its number is the refusal
 pub refused-here : (c : Check) (cs : List Check) → c .holds ≡ true → refusal (c ∷ cs) ≡ some (c .number)
 unfolding refusal

@@ -4,7 +4,7 @@ use mathlib.Core.List.{List, [], _∷_, _++_}
 use mathlib.Core.Bool.{Bool, true, false, _&&_, _||_}
 use Prim.Native.Nat.{ℕ, zero, suc, _+_, _<_, min, max}
 use lib.Dec.{eqb}
-use lib.ListN.{length, drop, getD}
+use lib.ListN.{length, drop, getD, set}
 
 -- 1 where the test holds, and 0 where it does not
 abbrev pub one : Bool → ℕ
@@ -26,6 +26,11 @@ module _ {A : Type 0} where
   abbrev pub keptIf : Bool → A → List A → List A
   keptIf true x xs = x ∷ xs
   keptIf false x xs = xs
+
+  -- a store where the test holds
+  abbrev pub setIf : Bool → List A → ℕ → A → List A
+  setIf true l i x = set l i x
+  setIf false l i x = l
 
   -- the test holds at every element
   unfoldable pub every : (A → Bool) → List A → Bool

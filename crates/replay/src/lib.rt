@@ -127,14 +127,14 @@ fn wide(x: u8) -> usize
 fn names_in(bytes: &[u8]) -> usize
     ensures { λ r. ⌜ (r ≡ length (namesIn (now (bytes .entry)))) × (r ≤ 255) ⌝ }
 {
-    let named = wide(octets::byte(bytes, 3));
+    let name_count = wide(octets::byte(bytes, 3));
     if bytes.len() < 4 {
         return 0;
     }
-    if bytes.len() - 4 < named {
+    if bytes.len() - 4 < name_count {
         return bytes.len() - 4;
     }
-    named
+    name_count
 }
 
 // Puts a record's names into the first places, and answers how many there are.
@@ -206,7 +206,7 @@ fn perform_enter(
 {
     let party = octets::byte(bytes, 1) as usize;
     let mode = locks::mode_numbered(octets::byte(bytes, 2) as u32);
-    let named = octets::byte(bytes, 3) as usize;
+    let name_count = octets::byte(bytes, 3) as usize;
     let mut names = [0u16; 255];
     let k = put_names(bytes, &mut names);
     let step = desk.enter(
@@ -217,7 +217,7 @@ fn perform_enter(
         party,
         mode,
         &names[..k],
-        named,
+        name_count,
     );
     let answer = step.answer;
     let outcome = entered(answer);

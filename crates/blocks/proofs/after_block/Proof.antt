@@ -58,7 +58,7 @@ returns-4 c =
       sym (b .block-check .ensures),
       not-false (eqb (k .number4 .result) (b .block-check .result)) (i .before .if2 .left),
       sym (h .head-right .ensures) ∙ not-false _ (i .if3 .left),
-      sym (c .before .before .number2 .ensures .0),
+      sym (c .before .number2 .ensures .0),
       part-to-end,
     )
 
@@ -73,10 +73,10 @@ after-block-spec =
     (λ c κs. search needs)
     returns-2
     returns-3
+    (λ c. search needs)
+    (λ c. search needs)
+    (λ c. search needs)
     (λ c κs. search needs)
-    (λ c. search needs)
-    (λ c. search needs)
-    (λ c. search needs)
     (λ c. search needs)
     after-records-requires
     returns-4)

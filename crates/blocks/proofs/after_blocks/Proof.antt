@@ -9,10 +9,10 @@ use Rattle.blocks.proofs.after_blocks.Statement.{statement}
 use Rattle.blocks.proofs.after_blocks.Tie as tie
 
 abbrev Inv-loop : tie.InvT-loop
-Inv-loop k file stage₀ i₀ stage i = (i ≤ k) × (afterBlocks (k - i) i stage (drop (512 * i) file) ≡ afterBlocks k 0 0 file)
+Inv-loop file k stage₀ i₀ stage i = (i ≤ k) × (afterBlocks (k - i) i stage (drop (512 * i) file) ≡ afterBlocks k 0 0 file)
 
 abbrev μ-loop : tie.MeasureT-loop
-μ-loop k file stage₀ i₀ stage i = k - i
+μ-loop file k stage₀ i₀ stage i = k - i
 
 loop-holds : tie.Need-loop-holds Inv-loop μ-loop
 loop-holds c = (omega arith, start-blocks _ _)

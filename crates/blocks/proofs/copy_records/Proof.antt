@@ -12,13 +12,13 @@ use Rattle.blocks.proofs.copy_records.Statement.{statement}
 use Rattle.blocks.proofs.copy_records.Tie as tie
 
 abbrev Inv-loop : tie.InvT-loop
-Inv-loop k file room₀ to₀ i₀ room to i =
+Inv-loop file k room₀ to₀ i₀ room to i =
     (i ≤ k) × (to ≤ 496 * i) × (length room ≡ length room₀)
     × (overAt to (recordsOf (k - i) (drop (512 * i) file)) room ≡ over (recordsOf k file) room₀)
     × (to + length (recordsOf (k - i) (drop (512 * i) file)) ≡ length (recordsOf k file))
 
 abbrev μ-loop : tie.MeasureT-loop
-μ-loop k file room₀ to₀ i₀ room to i = k - i
+μ-loop file k room₀ to₀ i₀ room to i = k - i
 
 loop-holds : tie.Need-loop-holds Inv-loop μ-loop
 loop-holds c = (omega arith, omega arith, refl, copy-start _ _ _, copy-start-length _ _)

@@ -12,12 +12,12 @@ use Rattle.blocks.proofs.write_blocks.Statement.{statement}
 use Rattle.blocks.proofs.write_blocks.Tie as tie
 
 abbrev Inv-loop : tie.InvT-loop
-Inv-loop k records room₀ i₀ room i =
+Inv-loop records k room₀ i₀ room i =
     (i ≤ k) × (length room ≡ length room₀)
     × (overAt (512 * i) (blocksOf (k - i) i (drop (496 * i) records)) room ≡ over (blocksOf k 0 records) room₀)
 
 abbrev μ-loop : tie.MeasureT-loop
-μ-loop k records room₀ i₀ room i = k - i
+μ-loop records k room₀ i₀ room i = k - i
 
 loop-holds : tie.Need-loop-holds Inv-loop μ-loop
 loop-holds c = (omega arith, refl, make-start _ _ _)

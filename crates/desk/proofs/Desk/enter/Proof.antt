@@ -10,12 +10,12 @@ use lib.Seq.{length-take-le}
 use borrow.Author.Needs.{needs}
 use borrow.Author.Tests.{ltb-false}
 use Rattle.lists.specs.Answer.{Check, refusal}
-use Rattle.lists.proofs.Refusals.{refused-here, refused-later}
+use Rattle.lists.proofs.Refusals.{refusal-nil, refused-here, refused-later}
 use Rattle.locks.specs.Stages.{isOut}
 use Rattle.locks.specs.Lent.{Hierarchy, lent}
 use Rattle.desk.specs.Desks.{stageAt}
 use Rattle.desk.specs.Steps.{StepFacts, enterOwn, enterRefusal}
-use Rattle.desk.proofs.Judging.{judged-own, judged-some, judged-facts, refusal-nil, few-waiting, cover-fits}
+use Rattle.desk.proofs.Judging.{judged-own, judged-some, judged-facts, few-waiting, cover-fits}
 use Rattle.desk.proofs.Answering.{enter-refused, enter-granted, enter-waits}
 use Rattle.desk.proofs.Desk.enter.Statement.{statement}
 use Rattle.desk.proofs.Desk.enter.Tie as tie

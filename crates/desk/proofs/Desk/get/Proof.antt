@@ -12,7 +12,8 @@ use Rattle.lists.specs.Answer.{refusal}
 use Rattle.locks.specs.Lent.{Hierarchy, lent}
 use Rattle.desk.specs.Steps.{StepFacts, nodeChecks, valueChecks}
 use Rattle.desk.specs.Inner.{NodeJudged}
-use Rattle.desk.proofs.Judging.{judged-own, judged-some, judged-facts, refusal-nil, node-lent, node-own, node-some, node-known}
+use Rattle.lists.proofs.Refusals.{refusal-nil}
+use Rattle.desk.proofs.Judging.{judged-own, judged-some, judged-facts, node-lent, node-own, node-some, node-known}
 use Rattle.desk.proofs.Answering.{get-refused, get-waiting, get-value}
 use Rattle.desk.proofs.Desk.get.Statement.{statement}
 use Rattle.desk.proofs.Desk.get.Tie as tie

@@ -9,7 +9,7 @@ use lib.ListN.{length}
 use borrow.Author.Needs.{needs}
 use borrow.Author.Tests.{ltb-false}
 use Rattle.lists.specs.Answer.{Check, refusal}
-use Rattle.lists.proofs.Refusals.{refused-here, refused-later}
+use Rattle.lists.proofs.Refusals.{refusal-nil, refused-here, refused-later}
 use Rattle.lists.proofs.Loops.{field-length}
 use Rattle.locks.specs.Stages.{isOut}
 use Rattle.locks.specs.Lent.{Hierarchy, lent}
@@ -17,7 +17,7 @@ use Rattle.sweeps.proofs.Sweeps.{leaving-few}
 use Rattle.arrivals.proofs.Queues.{places-length}
 use Rattle.desk.specs.Desks.{stageAt}
 use Rattle.desk.specs.Steps.{leaveOwn, StepFacts, afterLeaving, leaveRefusal}
-use Rattle.desk.proofs.Judging.{judged-own, judged-some, judged-facts, refusal-nil}
+use Rattle.desk.proofs.Judging.{judged-own, judged-some, judged-facts}
 use Rattle.desk.proofs.Answering.{leave-refused, leave-left}
 use Rattle.desk.proofs.Desk.leave.Statement.{statement}
 use Rattle.desk.proofs.Desk.leave.Tie as tie

@@ -9,13 +9,13 @@ use lib.ListN.{length}
 use borrow.Author.Needs.{needs}
 use borrow.Author.Tests.{ltb-false}
 use Rattle.lists.specs.Answer.{Check, refusal}
-use Rattle.lists.proofs.Refusals.{refused-here, refused-later}
+use Rattle.lists.proofs.Refusals.{refusal-nil, refused-here, refused-later}
 use Rattle.locks.specs.Stages.{readsOnly}
 use Rattle.locks.specs.Lent.{Hierarchy, lent}
 use Rattle.desk.specs.Desks.{stageAt}
 use Rattle.desk.specs.Steps.{putOwn, StepFacts, nodeChecks, valueChecks}
 use Rattle.desk.specs.Inner.{NodeJudged}
-use Rattle.desk.proofs.Judging.{judged-own, judged-some, judged-facts, refusal-nil, node-lent, node-own, node-some, node-known}
+use Rattle.desk.proofs.Judging.{judged-own, judged-some, judged-facts, node-lent, node-own, node-some, node-known}
 use Rattle.desk.proofs.Answering.{put-refused, put-stored}
 use Rattle.desk.proofs.Desk.put.Statement.{statement}
 use Rattle.desk.proofs.Desk.put.Tie as tie
