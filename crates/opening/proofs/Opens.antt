@@ -33,8 +33,8 @@ use Rattle.replay.specs.Answers.{edgesRefusal, edgesInto, edgesMeaning, EdgesIn
 use Rattle.replay.proofs.Records.{records-length, edge-table-length, count-most}
 use Rattle.opening.specs.declared.OpenAnswer.{OpenAnswer}
 use Rattle.opening.specs.declared.OpenAnswer.the-variants.{Opened, Refused}
-use Rattle.opening.specs.Opening.{fileRows, builtChecks, openShort, readingRefusal, openRefusal, Opening, openingOf, openFile, openMeaning, Opens, openedRun}
-use Rattle.opening.specs.Inner.{HierarchyOpened, RecordsOpened}
+use Rattle.opening.specs.Opening.{fileRows, builtChecks, openShort, openRefusal, Opening, openingOf, openFile, openMeaning, Opens, openedRun}
+use Rattle.opening.specs.Inner.{HierarchyOpened, RecordsOpened, openingIn, readingRefusal, buildingRefusal, FileOpened}
 use Rattle.block_laws.proofs.Laws.{read-whole}
 
 -- an accepted file has whole records, at most 3,968
@@ -194,102 +194,48 @@ module _ (file room : List ℕ) (few : length file ≤ 65536) (many : 63488 ≤ 
         ap (take (16 * k)) (read-room w ∙ ap (λ (o : Option ℕ). roomAfter o (fileRecords file) room) (read-done .0))
         ∙ take-at (fileRecords file) (drop (length (fileRecords file)) room) (16 * k) (omega (arith, whole, read-done .1))
 
--- OPENING. What a file has where it is opened
-abbrev openingIn : List ℕ → Opening
-openingIn file = openingOf (sizeOf (fileRows file)) (edgeCountOf (fileRows file)) (length (fileRecords file) / 16)
-
+-- OPENING apart from the lent places: the file is refused
 module _ (file records edges places : List ℕ) where
-  -- a buffer is short
-  pub opens-short : openShort records edges places ≡ true → Opens (Refused 1) records edges places (openFile file records edges places)
-  unfolding openFile
-  opens-short short =
-      let one = refused-here (1 when openShort records edges places) (fileChecks file) short in
-      let all = refused-here (1 when openShort records edges places) (fileChecks file ++ builtChecks (fileRows file)) short in
+  pub file-refused : {records′ : List ℕ} (k : ℕ) → readingRefusal file ≡ some k → records′ ≡ roomAfter (readingRefusal file) (fileRecords file) records
+      → FileOpened file records edges places (Refused k) records′ edges places
+  file-refused k e w =
+      let all = refusal-front (fileChecks file) (builtChecks (fileRows file)) e in
       record {
         answer = ap (λ (o : Option ℕ). answerOf o (openingIn file)) (sym all);
-        records-after = ap (λ (o : Option ℕ). roomAfter o (fileRecords file) records) (sym one);
-        edges-after = ap (λ (o : Option ℕ). roomAfter o (edgeTable (fileRows file)) edges) (sym one);
+        records-after = w;
+        edges-after = ap (λ (o : Option ℕ). roomAfter o (edgeTable (fileRows file)) edges) (sym e);
         places-after = ap (λ (o : Option ℕ). roomAfter o (intervalTable (sizeOf (fileRows file)) (edgeTable (fileRows file))) places) (sym all);
       }
 
-  module _ (fits : openShort records edges places ≡ false) where
-    first : readingRefusal (openShort records edges places) file ≡ refusal (fileChecks file)
-    first = refused-later (1 when openShort records edges places) (fileChecks file) fits
+  -- it is not
+  pub file-opened : {records′ edges′ places′ part : List ℕ} {total : ℕ} (r : OpenAnswer) → readingRefusal file ≡ none → length (fileRecords file) / 16 ≡ total
+      → records′ ≡ roomAfter (readingRefusal file) (fileRecords file) records → part ≡ fileRecords file
+      → RecordsOpened (recordList part) total edges places edges′ places′ r → FileOpened file records edges places r records′ edges′ places′
+  file-opened {records′} {edges′} {places′} {part} {total} r e count w front h =
+      let all = refusal-past (fileChecks file) (builtChecks (fileRows file)) e in
+      let g = subst (λ (t : List ℕ). RecordsOpened (recordList t) total edges places edges′ places′ r) front h in
+      record {
+        answer = g .0 .0
+            ∙ ap (λ (k : ℕ). answerOf (refusal (builtChecks (fileRows file))) (openingOf (sizeOf (fileRows file)) (edgeCountOf (fileRows file)) k)) (sym count)
+            ∙ ap (λ (o : Option ℕ). answerOf o (openingIn file)) (sym all);
+        records-after = w;
+        edges-after = g .1 ∙ ap (λ (o : Option ℕ). roomAfter o (edgeTable (fileRows file)) edges) (sym e);
+        places-after = g .0 .1 ∙ ap (λ (o : Option ℕ). roomAfter o (intervalTable (sizeOf (fileRows file)) (edgeTable (fileRows file))) places) (sym all);
+      }
 
-    second : openRefusal (openShort records edges places) file ≡ refusal (fileChecks file ++ builtChecks (fileRows file))
-    second = refused-later (1 when openShort records edges places) (fileChecks file ++ builtChecks (fileRows file)) fits
-
-    -- the file is refused
-    pub opens-refused : {records′ : List ℕ} (k : ℕ) → refusal (fileChecks file) ≡ some k → records′ ≡ roomAfter (refusal (fileChecks file)) (fileRecords file) records
-        → Opens (Refused k) records′ edges places (openFile file records edges places)
-    unfolding openFile
-    opens-refused k e w =
-        let one = first ∙ e in
-        let all = second ∙ refusal-front (fileChecks file) (builtChecks (fileRows file)) e in
-        record {
-          answer = ap (λ (o : Option ℕ). answerOf o (openingIn file)) (sym all);
-          records-after = w ∙ ap (λ (o : Option ℕ). roomAfter o (fileRecords file) records) (sym first);
-          edges-after = ap (λ (o : Option ℕ). roomAfter o (edgeTable (fileRows file)) edges) (sym one);
-          places-after = ap (λ (o : Option ℕ). roomAfter o (intervalTable (sizeOf (fileRows file)) (edgeTable (fileRows file))) places) (sym all);
-        }
-
-    -- it is not
-    pub opens-records : {records′ edges′ places′ part : List ℕ} {total : ℕ} (r : OpenAnswer) → refusal (fileChecks file) ≡ none → length (fileRecords file) / 16 ≡ total
-        → records′ ≡ roomAfter (refusal (fileChecks file)) (fileRecords file) records → part ≡ fileRecords file
-        → RecordsOpened (recordList part) total edges places edges′ places′ r → Opens r records′ edges′ places′ (openFile file records edges places)
-    unfolding openFile
-    opens-records {records′} {edges′} {places′} {part} {total} r e count w front h =
-        let one = first ∙ e in
-        let all = second ∙ refusal-past (fileChecks file) (builtChecks (fileRows file)) e in
-        let g = subst (λ (t : List ℕ). RecordsOpened (recordList t) total edges places edges′ places′ r) front h in
-        record {
-          answer = g .0 .0
-              ∙ ap (λ (k : ℕ). answerOf (refusal (builtChecks (fileRows file))) (openingOf (sizeOf (fileRows file)) (edgeCountOf (fileRows file)) k)) (sym count)
-              ∙ ap (λ (o : Option ℕ). answerOf o (openingIn file)) (sym all);
-          records-after = w ∙ ap (λ (o : Option ℕ). roomAfter o (fileRecords file) records) (sym first);
-          edges-after = g .1 ∙ ap (λ (o : Option ℕ). roomAfter o (edgeTable (fileRows file)) edges) (sym one);
-          places-after = g .0 .1 ∙ ap (λ (o : Option ℕ). roomAfter o (intervalTable (sizeOf (fileRows file)) (edgeTable (fileRows file))) places) (sym all);
-        }
-
--- WHAT AN OPENED FILE IS: its run is the run over what stands in the places, and each part is within them
-pub record Ready (file : List ℕ) (n count total : ℕ) (records edges places : List ℕ) : Type 0 where
-  pub ran : runFile file ≡ done (fileRun (openedRun n places edges count records total))
-  pub n-most : n ≤ 256
-  pub edges-most : 2 * count ≤ 7936
-  pub records-most : 16 * total ≤ 63488
-
-pub long-enough : (records edges places : List ℕ) → 63488 ≤ length records → 7936 ≤ length edges → 512 ≤ length places → openShort records edges places ≡ false
-long-enough records edges places a b c = rw (le-ltb (length records) 63488 a, le-ltb (length edges) 7936 b, le-ltb (length places) 512 c) refl
-
-module _ (file records edges places : List ℕ) (a : OpenAnswer) {records′ edges′ places′ : List ℕ} (long₁ : 63488 ≤ length records) (long₂ : 7936 ≤ length edges) (long₃ : 512 ≤ length places)
-    (e : Opens a records′ edges′ places′ (openFile file records edges places)) where
-  fits : openShort records edges places ≡ false
-  fits = long-enough records edges places long₁ long₂ long₃
-
-  judge : (openFile file records edges places) .answer ≡ answerOf (refusal (fileChecks file ++ builtChecks (fileRows file))) (openingIn file)
-  unfolding openFile
-  judge = ap (λ (o : Option ℕ). answerOf o (openingIn file)) (second file records edges places fits)
-
-  -- refused: so is the run
-  pub opened-refused : (k : ℕ) → a ≡ Refused k → runFile file ≡ refused k
-  unfolding runFile runRecords
-  opened-refused k t = by (refusal (fileChecks file)) refl
-    where
-      all : refusal (fileChecks file ++ builtChecks (fileRows file)) ≡ some k
-      all = refused-by (refusal (fileChecks file ++ builtChecks (fileRows file))) (openingIn file) (sym judge ∙ sym (e .answer) ∙ ap openMeaning t)
-
-      by : (o : Option ℕ) → refusal (fileChecks file) ≡ o → fileUnless o file ≡ refused k
-      by (some j) f = let z = sym (refusal-front (fileChecks file) (builtChecks (fileRows file)) f) ∙ all in cc
-      by none f = ap (λ (o : Option ℕ). runUnless o (fileRows file)) (sym (refusal-past (fileChecks file) (builtChecks (fileRows file)) f) ∙ all)
+-- WHAT AN ANSWER TELLS of the file
+module _ (file : List ℕ) (a : OpenAnswer) (e : openMeaning a ≡ answerOf (buildingRefusal file) (openingIn file)) where
+  refused-whole : (k : ℕ) → a ≡ Refused k → buildingRefusal file ≡ some k
+  refused-whole k t = refused-by (buildingRefusal file) (openingIn file) (sym e ∙ ap openMeaning t)
 
   module _ (n count total : ℕ) (t : a ≡ Opened n count total) where
-    answered : (refusal (fileChecks file ++ builtChecks (fileRows file)) ≡ none) × ((openingIn file) ≡ openingOf n count total)
-    answered = done-by (refusal (fileChecks file ++ builtChecks (fileRows file))) (openingIn file) (sym judge ∙ sym (e .answer) ∙ ap openMeaning t)
+    answered : (buildingRefusal file ≡ none) × ((openingIn file) ≡ openingOf n count total)
+    answered = done-by (buildingRefusal file) (openingIn file) (sym e ∙ ap openMeaning t)
 
-    file-right : refusal (fileChecks file) ≡ none
-    file-right = by (refusal (fileChecks file)) refl
+    file-right : readingRefusal file ≡ none
+    file-right = by (readingRefusal file) refl
       where
-        by : (o : Option ℕ) → refusal (fileChecks file) ≡ o → o ≡ none
+        by : (o : Option ℕ) → readingRefusal file ≡ o → o ≡ none
         by none f = refl
         by (some j) f = let z : some j ≡ none = sym (refusal-front (fileChecks file) (builtChecks (fileRows file)) f) ∙ answered .0 in let y : _≡_ {A = ℕ} 0 1 = cc in absurd (omega arith)
 
@@ -305,49 +251,161 @@ module _ (file records edges places : List ℕ) (a : OpenAnswer) {records′ edg
     total-is : length (fileRecords file) / 16 ≡ total
     total-is = ap (λ (o : Opening). o .records) (answered .1)
 
+    all-records : length (fileRecords file) ≡ 16 * total
+    all-records = omega (arith, (records-whole file file-right) .0, total-is)
+
+    all-edges : length (edgeTable (fileRows file)) ≡ 2 * count
+    all-edges = omega (arith, edge-table-length (fileRows file), count-right)
+
+    pub few-records : 16 * total ≤ 63488
+    few-records = omega (arith, (records-whole file file-right) .1, total-is)
+
+    pub few-edges : 2 * count ≤ 7936
+    few-edges = omega (arith, count-right, count-most (λ (r : List ℕ). eqb (kindOf r) 2) (fileRows file), records-length (fileRecords file), (records-whole file file-right) .1)
+
+-- OPENING INTO THE LENT PLACES. A refusal changes nothing
+pub long-enough : (records edges places : List ℕ) → 63488 ≤ length records → 7936 ≤ length edges → 512 ≤ length places → openShort records edges places ≡ false
+long-enough records edges places a b c = rw (le-ltb (length records) 63488 a, le-ltb (length edges) 7936 b, le-ltb (length places) 512 c) refl
+
+module _ (file records edges places : List ℕ) where
+  opens-refused : (k : ℕ) → openRefusal (openShort records edges places) file ≡ some k → Opens (Refused k) records edges places (openFile file records edges places)
+  unfolding openFile
+  opens-refused k e =
+      record {
+        answer = ap (λ (o : Option ℕ). answerOf o (openingIn file)) (sym e);
+        records-after = ap (λ (o : Option ℕ). roomAfter o (fileRecords file) records) (sym e);
+        edges-after = ap (λ (o : Option ℕ). roomAfter o (edgeTable (fileRows file)) edges) (sym e);
+        places-after = ap (λ (o : Option ℕ). roomAfter o (intervalTable (sizeOf (fileRows file)) (edgeTable (fileRows file))) places) (sym e);
+      }
+
+  -- a buffer is short
+  pub opens-short : openShort records edges places ≡ true → Opens (Refused 1) records edges places (openFile file records edges places)
+  opens-short short = opens-refused 1 (refused-here (1 when openShort records edges places) (fileChecks file ++ builtChecks (fileRows file)) short)
+
+  module _ (long₁ : 63488 ≤ length records) (long₂ : 7936 ≤ length edges) (long₃ : 512 ≤ length places) where
+    whole : openRefusal (openShort records edges places) file ≡ buildingRefusal file
+    whole = refused-later (1 when openShort records edges places) (fileChecks file ++ builtChecks (fileRows file)) (long-enough records edges places long₁ long₂ long₃)
+
+    -- the file is too long
+    pub opens-long : 65536 < length file → Opens (Refused 2) records edges places (openFile file records edges places)
+    opens-long h = opens-refused 2 (whole ∙ refusal-front (fileChecks file) (builtChecks (fileRows file)) (too-long file h))
+
+    -- what was opened apart: refused
+    module _ {read table read′ table′ places′ : List ℕ} (a : OpenAnswer) (o : FileOpened file read table places a read′ table′ places′) where
+      pub apart-refused : (k : ℕ) → a ≡ Refused k → Opens (Refused k) records edges places′ (openFile file records edges places)
+      apart-refused k t =
+          let r = refused-whole file a (o .answer) k t in
+          let same : places′ ≡ places = o .places-after ∙ ap (λ (x : Option ℕ). roomAfter x (intervalTable (sizeOf (fileRows file)) (edgeTable (fileRows file))) places) r in
+          subst (λ (p : List ℕ). Opens (Refused k) records edges p (openFile file records edges places)) (sym same) (opens-refused k (whole ∙ r))
+
+      -- or handed over
+      module _ (n count total : ℕ) (t : a ≡ Opened n count total) where
+        read-is : take (16 * total) read′ ≡ fileRecords file
+        unfolding over
+        read-is =
+            ap (take (16 * total)) (o .records-after ∙ ap (λ (x : Option ℕ). roomAfter x (fileRecords file) read) (file-right file a (o .answer) n count total t))
+            ∙ take-at (fileRecords file) (drop (length (fileRecords file)) read) (16 * total) (all-records file a (o .answer) n count total t)
+
+        table-read : take (2 * count) table′ ≡ edgeTable (fileRows file)
+        unfolding over
+        table-read =
+            ap (take (2 * count)) (o .edges-after ∙ ap (λ (x : Option ℕ). roomAfter x (edgeTable (fileRows file)) table) (file-right file a (o .answer) n count total t))
+            ∙ take-at (edgeTable (fileRows file)) (drop (length (edgeTable (fileRows file))) table) (2 * count) (all-edges file a (o .answer) n count total t)
+
+        pub apart-done : {records′ edges′ : List ℕ} → records′ ≡ over (take (16 * total) read′) records → edges′ ≡ over (take (2 * count) table′) edges
+            → Opens (Opened n count total) records′ edges′ places′ (openFile file records edges places)
+        unfolding openFile
+        apart-done p q =
+            let none-of = whole ∙ (answered file a (o .answer) n count total t) .0 in
+            record {
+              answer = sym (ap openMeaning t) ∙ o .answer ∙ ap (λ (x : Option ℕ). answerOf x (openingIn file)) (sym whole);
+              records-after = p ∙ ap (λ (l : List ℕ). over l records) read-is ∙ ap (λ (x : Option ℕ). roomAfter x (fileRecords file) records) (sym none-of);
+              edges-after = q ∙ ap (λ (l : List ℕ). over l edges) table-read ∙ ap (λ (x : Option ℕ). roomAfter x (edgeTable (fileRows file)) edges) (sym none-of);
+              places-after = o .places-after ∙ ap (λ (x : Option ℕ). roomAfter x (intervalTable (sizeOf (fileRows file)) (edgeTable (fileRows file))) places) (sym whole);
+            }
+
+-- WHAT AN OPENED FILE IS: its run is the run over what stands in the places, and each part is within them
+pub record Ready (file : List ℕ) (n count total : ℕ) (records edges places : List ℕ) : Type 0 where
+  pub ran : runFile file ≡ done (fileRun (openedRun n places edges count records total))
+  pub n-most : n ≤ 256
+  pub edges-most : 2 * count ≤ 7936
+  pub records-most : 16 * total ≤ 63488
+
+module _ (file records edges places : List ℕ) (a : OpenAnswer) {records′ edges′ places′ : List ℕ} (long₁ : 63488 ≤ length records) (long₂ : 7936 ≤ length edges) (long₃ : 512 ≤ length places)
+    (e : Opens a records′ edges′ places′ (openFile file records edges places)) where
+  right : openRefusal (openShort records edges places) file ≡ buildingRefusal file
+  right = whole file records edges places long₁ long₂ long₃
+
+  judge : openMeaning a ≡ answerOf (buildingRefusal file) (openingIn file)
+  unfolding openFile
+  judge = e .answer ∙ ap (λ (o : Option ℕ). answerOf o (openingIn file)) right
+
+  -- refused: so is the run
+  pub opened-refused : (k : ℕ) → a ≡ Refused k → runFile file ≡ refused k
+  unfolding runFile runRecords
+  opened-refused k t = by (readingRefusal file) refl
+    where
+      all : buildingRefusal file ≡ some k
+      all = refused-whole file a judge k t
+
+      by : (o : Option ℕ) → readingRefusal file ≡ o → fileUnless o file ≡ refused k
+      by (some j) f = let z = sym (refusal-front (fileChecks file) (builtChecks (fileRows file)) f) ∙ all in cc
+      by none f = ap (λ (o : Option ℕ). runUnless o (fileRows file)) (sym (refusal-past (fileChecks file) (builtChecks (fileRows file)) f) ∙ all)
+
+  module _ (n count total : ℕ) (t : a ≡ Opened n count total) where
+    accepted-all : openRefusal (openShort records edges places) file ≡ none
+    accepted-all = right ∙ (answered file a judge n count total t) .0
+
+    size-is : sizeOf (fileRows file) ≡ n
+    size-is = n-is file a judge n count total t
+
+    edges-are : edgeCountOf (fileRows file) ≡ count
+    edges-are = count-right file a judge n count total t
+
     records-front : take (16 * total) records′ ≡ fileRecords file
     unfolding openFile over
     records-front =
-        ap (take (16 * total)) (e .records-after ∙ ap (λ (o : Option ℕ). roomAfter o (fileRecords file) records) (first file records edges places fits ∙ file-right))
-        ∙ take-at (fileRecords file) (drop (length (fileRecords file)) records) (16 * total) (omega (arith, (records-whole file file-right) .0, total-is))
+        ap (take (16 * total)) (e .records-after ∙ ap (λ (o : Option ℕ). roomAfter o (fileRecords file) records) accepted-all)
+        ∙ take-at (fileRecords file) (drop (length (fileRecords file)) records) (16 * total) (all-records file a judge n count total t)
 
     edges-front : take (2 * count) edges′ ≡ edgeTable (fileRows file)
     unfolding openFile over
     edges-front =
-        ap (take (2 * count)) (e .edges-after ∙ ap (λ (o : Option ℕ). roomAfter o (edgeTable (fileRows file)) edges) (first file records edges places fits ∙ file-right))
-        ∙ take-at (edgeTable (fileRows file)) (drop (length (edgeTable (fileRows file))) edges) (2 * count) (omega (arith, edge-table-length (fileRows file), count-right))
+        ap (take (2 * count)) (e .edges-after ∙ ap (λ (o : Option ℕ). roomAfter o (edgeTable (fileRows file)) edges) accepted-all)
+        ∙ take-at (edgeTable (fileRows file)) (drop (length (edgeTable (fileRows file))) edges) (2 * count) (all-edges file a judge n count total t)
 
     places-front : take (2 * n) places′ ≡ intervalTable (sizeOf (fileRows file)) (edgeTable (fileRows file))
     unfolding openFile over
     places-front =
         let table : List ℕ = intervalTable (sizeOf (fileRows file)) (edgeTable (fileRows file)) in
-        ap (take (2 * n)) (e .places-after ∙ ap (λ (o : Option ℕ). roomAfter o table places) (second file records edges places fits ∙ answered .0))
-        ∙ take-at table (drop (length table) places) (2 * n) (omega (arith, built-length (sizeOf (fileRows file)) (edgeTable (fileRows file)), n-is))
+        ap (take (2 * n)) (e .places-after ∙ ap (λ (o : Option ℕ). roomAfter o table places) accepted-all)
+        ∙ take-at table (drop (length table) places) (2 * n) (omega (arith, built-length (sizeOf (fileRows file)) (edgeTable (fileRows file)), size-is))
 
     same : lent n (take (2 * n) places′) (take (2 * count) edges′) count ≡ builtOf (fileRows file)
     same =
         ap (λ (i : List ℕ). lent n i (take (2 * count) edges′) count) places-front
         ∙ ap (λ (g : List ℕ). lent n (intervalTable (sizeOf (fileRows file)) (edgeTable (fileRows file))) g count) edges-front
-        ∙ ap (λ (m : ℕ). lent m (intervalTable (sizeOf (fileRows file)) (edgeTable (fileRows file))) (edgeTable (fileRows file)) count) (sym n-is)
-        ∙ ap (lent (sizeOf (fileRows file)) (intervalTable (sizeOf (fileRows file)) (edgeTable (fileRows file))) (edgeTable (fileRows file))) (sym count-right)
+        ∙ ap (λ (m : ℕ). lent m (intervalTable (sizeOf (fileRows file)) (edgeTable (fileRows file))) (edgeTable (fileRows file)) count) (sym size-is)
+        ∙ ap (lent (sizeOf (fileRows file)) (intervalTable (sizeOf (fileRows file)) (edgeTable (fileRows file))) (edgeTable (fileRows file))) (sym edges-are)
 
     abbrev runOver : Hierarchy → ℕ → List ℕ → Answer FileRun
     runOver H m bytes = done (fileRun (performAll (startOf H m) (stepRecords (recordList bytes))))
 
     runs : runFile file ≡ runOver (builtOf (fileRows file)) (sizeOf (fileRows file)) (fileRecords file)
     unfolding runFile runRecords
-    runs = ap (λ (o : Option ℕ). fileUnless o file) file-right ∙ ap (λ (o : Option ℕ). runUnless o (fileRows file)) built-right
+    runs =
+        ap (λ (o : Option ℕ). fileUnless o file) (file-right file a judge n count total t)
+        ∙ ap (λ (o : Option ℕ). runUnless o (fileRows file)) (built-right file a judge n count total t)
 
     pub opened-ready : Ready file n count total records′ edges′ places′
     opened-ready =
-        let size = right-size (sizeOf (fileRows file)) ((refusal-none _ built-right) .0) in
-        let whole = records-whole file file-right in
+        let size = right-size (sizeOf (fileRows file)) ((refusal-none _ (built-right file a judge n count total t)) .0) in
         record {
           ran = runs
               ∙ ap (λ (H : Hierarchy). runOver H (sizeOf (fileRows file)) (fileRecords file)) (sym same)
-              ∙ ap (λ (m : ℕ). runOver (lent n (take (2 * n) places′) (take (2 * count) edges′) count) m (fileRecords file)) n-is
+              ∙ ap (λ (m : ℕ). runOver (lent n (take (2 * n) places′) (take (2 * count) edges′) count) m (fileRecords file)) size-is
               ∙ ap (runOver (lent n (take (2 * n) places′) (take (2 * count) edges′) count) n) (sym records-front);
-          n-most = omega (arith, size .1, n-is);
-          edges-most = omega (arith, count-right, count-most (λ (r : List ℕ). eqb (kindOf r) 2) (fileRows file), records-length (fileRecords file), whole .1);
-          records-most = omega (arith, whole .1, total-is);
+          n-most = omega (arith, size .1, size-is);
+          edges-most = few-edges file a judge n count total t;
+          records-most = few-records file a judge n count total t;
         }

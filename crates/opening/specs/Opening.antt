@@ -28,11 +28,7 @@ builtChecks rs = hierarchyChecks (sizeOf rs) (edgeTable rs) (edgeCountOf rs)
 abbrev pub openShort : List ℕ → List ℕ → List ℕ → Bool
 openShort records edges places = ltb (length records) 63488 || ltb (length edges) 7936 || ltb (length places) 512
 
--- refused with 1, or as a file, with 2 to 4
-abbrev pub readingRefusal : Bool → List ℕ → Option ℕ
-readingRefusal short file = refusal (1 when short ∷ fileChecks file)
-
--- or as a hierarchy, with 5 to 9
+-- refused with 1, as a file, with 2 to 4, or as a hierarchy, with 5 to 9
 abbrev pub openRefusal : Bool → List ℕ → Option ℕ
 openRefusal short file = refusal (1 when short ∷ fileChecks file ++ builtChecks (fileRows file))
 
@@ -53,13 +49,13 @@ pub record OpenResult : Type 0 where
   pub edges : List ℕ
   pub places : List ℕ
 
--- opening a file: the records and the edge table unless the file is refused, and the intervals unless the hierarchy is
+-- opening a file: its records, its edge table and its intervals into the lent places; a refusal changes nothing
 unfoldable pub openFile : List ℕ → List ℕ → List ℕ → List ℕ → OpenResult
 openFile file records edges places =
     record {
       answer = answerOf (openRefusal (openShort records edges places) file) (openingOf (sizeOf (fileRows file)) (edgeCountOf (fileRows file)) (length (fileRecords file) / 16));
-      records = roomAfter (readingRefusal (openShort records edges places) file) (fileRecords file) records;
-      edges = roomAfter (readingRefusal (openShort records edges places) file) (edgeTable (fileRows file)) edges;
+      records = roomAfter (openRefusal (openShort records edges places) file) (fileRecords file) records;
+      edges = roomAfter (openRefusal (openShort records edges places) file) (edgeTable (fileRows file)) edges;
       places = roomAfter (openRefusal (openShort records edges places) file) (intervalTable (sizeOf (fileRows file)) (edgeTable (fileRows file))) places;
     }
 

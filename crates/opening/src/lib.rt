@@ -2,9 +2,10 @@
 ghost use mathlib.Core.Path.{_≡_};
 ghost use Prim.Native.Nat.{_*_, _≤_};
 ghost use lib.ListN.{length};
+ghost use Rattle.lists.specs.Lists.{over};
 ghost use Rattle.replay.specs.Replay.{recordList};
 ghost use Rattle.opening.specs.Opening.{openFile, Opens};
-ghost use Rattle.opening.specs.Inner.{HierarchyOpened, RecordsOpened};
+ghost use Rattle.opening.specs.Inner.{HierarchyOpened, RecordsOpened, FileOpened};
 use blocks::RECORD;
 use blocks::ReadAnswer;
 use intervals::BuildAnswer;
@@ -66,10 +67,10 @@ fn open_records(records: &[u8], total: usize, edges: &mut [u16], places: &mut [u
     }
 }
 
-// Opens a file that is no longer than 128 blocks, into places that are long enough.
+// Opens a file that is no longer than 128 blocks, into places that are long enough. Records and edges are written even where the hierarchy is refused.
 fn open_file(file: &[u8], records: &mut [u8], edges: &mut [u16], places: &mut [u16]) -> OpenAnswer
     requires { ⌜ (length (now file) ≤ 65536) × (63488 ≤ length (now records)) × (7936 ≤ length (now edges)) × (512 ≤ length (now places)) ⌝ }
-    ensures { λ r. ⌜ Opens r (now (records .exit)) (now (edges .exit)) (now (places .exit)) (openFile (now (file .entry)) (now (records .entry)) (now (edges .entry)) (now (places .entry))) ⌝ }
+    ensures { λ r. ⌜ FileOpened (now (file .entry)) (now (records .entry)) (now (edges .entry)) (now (places .entry)) r (now (records .exit)) (now (edges .exit)) (now (places .exit)) ⌝ }
 {
     let answer = blocks::read(file, records);
     match answer {
@@ -81,7 +82,47 @@ fn open_file(file: &[u8], records: &mut [u8], edges: &mut [u16], places: &mut [u
     }
 }
 
-// Opens a file: its records, its edge table and its intervals go into the lent places.
+// Writes a table over the first of the places.
+fn put_table(table: &[u16], places: &mut [u16])
+    requires { ⌜ length (now table) ≤ length (now places) ⌝ }
+    ensures { λ _. ⌜ now (places .exit) ≡ over (now (table .entry)) (now (places .entry)) ⌝ }
+{
+    let mut i: usize = 0;
+    while i < table.len() {
+        places[i] = table[i];
+        i += 1;
+    }
+}
+
+// Writes the records and the edge table of an opened file over the first of the lent places.
+fn hand_over(read: &[u8], table: &[u16], records: &mut [u8], edges: &mut [u16])
+    requires { ⌜ (length (now read) ≤ length (now records)) × (length (now table) ≤ length (now edges)) ⌝ }
+    ensures { λ _. ⌜ (now (records .exit) ≡ over (now (read .entry)) (now (records .entry))) × (now (edges .exit) ≡ over (now (table .entry)) (now (edges .entry))) ⌝ }
+{
+    octets::copy_at(read, 0, records);
+    put_table(table, edges);
+}
+
+// Opens a file apart from the lent records and edges, and writes them only where it is not refused.
+fn open_apart(file: &[u8], records: &mut [u8], edges: &mut [u16], places: &mut [u16]) -> OpenAnswer
+    requires { ⌜ (length (now file) ≤ 65536) × (63488 ≤ length (now records)) × (7936 ≤ length (now edges)) × (512 ≤ length (now places)) ⌝ }
+    ensures { λ r. ⌜ Opens r (now (records .exit)) (now (edges .exit)) (now (places .exit)) (openFile (now (file .entry)) (now (records .entry)) (now (edges .entry)) (now (places .entry))) ⌝ }
+{
+    let mut read = [0u8; RECORD_BYTES];
+    let mut table = [0u16; EDGE_PLACES];
+    let answer = open_file(file, &mut read, &mut table, places);
+    match answer {
+        OpenAnswer::Refused(k) => OpenAnswer::Refused(k),
+        OpenAnswer::Opened(n, edge_count, total) => {
+            let bytes = RECORD * total;
+            let numbers = 2 * edge_count;
+            hand_over(&read[..bytes], &table[..numbers], records, edges);
+            OpenAnswer::Opened(n, edge_count, total)
+        }
+    }
+}
+
+// Opens a file: its records, its edge table and its intervals go into the lent places. A refusal changes nothing.
 pub fn open_run(
     file: &[u8],
     records: &mut [u8],
@@ -102,5 +143,5 @@ pub fn open_run(
     if file.len() > FILE_BYTES {
         return OpenAnswer::Refused(2);
     }
-    open_file(file, records, edges, places)
+    open_apart(file, records, edges, places)
 }

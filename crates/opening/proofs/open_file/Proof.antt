@@ -5,7 +5,7 @@ use native.Mathlib.Omega.{arith}
 use lib.ListN.{length}
 use lib.Seq.{length-take-le}
 use borrow.Author.Needs.{needs}
-use Rattle.opening.proofs.Opens.{read-room, read-refused, read-done, read-few, read-front, long-enough, opens-refused, opens-records}
+use Rattle.opening.proofs.Opens.{read-room, read-refused, read-done, read-few, read-front, file-refused, file-opened}
 use Rattle.opening.proofs.open_file.Statement.{statement}
 use Rattle.opening.proofs.open_file.Tie as tie
 
@@ -66,8 +66,8 @@ returns : tie.Need-returns
 returns c =
     let z = c .before .before .before .before .before .before .before .before .before .before .before .args in
     let h = c .before .before .before .before .before .before .before .before .before .before .before .pre in let e = c .before .before .before .before .before .read in
-    let a = c .before .answer .given in let fits = long-enough (z .records .now) (z .edges .now) (z .places .now) (h .1) (h .2) (h .3) in
-    opens-refused (z .file .now) (z .records .now) (z .edges .now) (z .places .now) fits (a .0 .0) (read-refused (z .file .now) (z .records .now) (h .0) (h .1) (e .result) (e .ensures .0)
+    let a = c .before .answer .given in
+    file-refused (z .file .now) (z .records .now) (z .edges .now) (z .places .now) (a .0 .0) (read-refused (z .file .now) (z .records .now) (h .0) (h .1) (e .result) (e .ensures .0)
     (a .0 .0) (a .1)) (read-room (z .file .now) (z .records .now) (h .0) (h .1) (e .result) (e .ensures .0) (a .0 .0) (e .ensures .1))
 
 same-length-2 : tie.Need-same-length-2
@@ -85,9 +85,8 @@ returns-2 c =
     let h = c .before .before .before .before .before .before .before .before .before .before .before .before .before .before .before .before .before .before .before .pre in
     let e = c .before .before .before .before .before .before .before .before .before .before .before .before .before .read in
     let a = c .before .before .before .before .before .before .before .before .before .answer2 .given in let o = c .before .before .before .before .open-records in
-    let fits = long-enough (z .records .now) (z .edges .now) (z .places .now) (h .1) (h .2) (h .3) in
     let d = read-done (z .file .now) (z .records .now) (h .0) (h .1) (e .result) (e .ensures .0) (a .0 .0) (a .1) in
-    opens-records (z .file .now) (z .records .now) (z .edges .now) (z .places .now) fits (o .result) (d .0) (d .1) (read-room (z .file .now) (z .records .now) (h .0) (h .1) (e .result)
+    file-opened (z .file .now) (z .records .now) (z .edges .now) (z .places .now) (o .result) (d .0) (d .1) (read-room (z .file .now) (z .records .now) (h .0) (h .1) (e .result)
     (e .ensures .0) (a .0 .0) (e .ensures .1))
     (read-front (z .file .now) (z .records .now) (h .0) (h .1) (e .result) (e .ensures .0) (a .0 .0) (a .1) (e .ensures .1)) (o .ensures)
 
