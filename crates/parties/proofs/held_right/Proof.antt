@@ -1,11 +1,12 @@
 -- `held_right` meets its contract: the holds are tested first, then the waiters. Assumes nothing.
 use mathlib.Core.Path.{refl, sym, _∙_}
+use native.Mathlib.Omega.{arith}
 use borrow.Author.Tests.{not-true, not-false}
 use Rattle.parties.proofs.held_right.Statement.{statement}
 use Rattle.parties.proofs.held_right.Tie as tie
 
 rows-apart-requires : tie.Need-rows-apart-requires
-rows-apart-requires c κs = c .before .before .before .pre .2 .few
+rows-apart-requires c κs = omega (arith, c .before .before .before .pre .2 .few)
 
 returns : tie.Need-returns
 returns c = let h = c .before .before .before .before .before .pre .2 in
