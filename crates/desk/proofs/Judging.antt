@@ -23,51 +23,55 @@ use Rattle.desk.specs.declared.Desk.{Desk}
 use Rattle.desk.specs.Desks.{stageAt}
 use Rattle.desk.specs.Sound.{soundDesk}
 use Rattle.desk.specs.Steps.{stepChecks, StepFacts, nodeChecks, NodeFacts}
-use Rattle.desk.specs.Inner.{refusalAfter, TablesJudged, Judged, NodeJudged}
+use Rattle.desk.specs.Inner.{refusalAfter, SizesJudged, Judged, NodeJudged}
 use Rattle.desk.proofs.Facts.{step-facts, node-facts}
 
--- WHAT IS ASKED OF THE LENT BUFFERS
+-- WHAT IS ASKED OF LENGTHS AND COUNTS
 module _ (H : Hierarchy) (short : Bool) where
-  pub tables-1 : (tablesShort H || short) ≡ true → TablesJudged H short 1
-  tables-1 e own = refused-here _ _ e
+  pub sizes-1 : (tablesShort H || short) ≡ true → SizesJudged H short 1
+  sizes-1 e own = refused-here _ _ e
 
   module _ (e₁ : (tablesShort H || short) ≡ false) where
-    pub tables-5 : sizeWrong (H .n) ≡ true → TablesJudged H short 5
-    tables-5 e own = refused-later _ _ e₁ ∙ refused-here _ _ e
+    pub sizes-5 : sizeWrong (H .n) ≡ true → SizesJudged H short 5
+    sizes-5 e own = refused-later _ _ e₁ ∙ refused-here _ _ e
 
     module _ (e₅ : sizeWrong (H .n) ≡ false) where
-      pub tables-6 : edgesTooMany (H .edgeCount) ≡ true → TablesJudged H short 6
-      tables-6 e own = refused-later _ _ e₁ ∙ refused-later _ _ e₅ ∙ refused-here _ _ e
+      pub sizes-6 : edgesTooMany (H .edgeCount) ≡ true → SizesJudged H short 6
+      sizes-6 e own = refused-later _ _ e₁ ∙ refused-later _ _ e₅ ∙ refused-here _ _ e
 
-      module _ (e₆ : edgesTooMany (H .edgeCount) ≡ false) where
-        pub tables-7 : someEdge (edgeWrong (H .n)) (edgesOf (H .edges) (H .edgeCount)) ≡ true → TablesJudged H short 7
-        tables-7 e own = refused-later _ _ e₁ ∙ refused-later _ _ e₅ ∙ refused-later _ _ e₆ ∙ refused-here _ _ e
-
-        pub tables-0 : someEdge (edgeWrong (H .n)) (edgesOf (H .edges) (H .edgeCount)) ≡ false → TablesJudged H short 0
-        tables-0 e own = refused-later _ _ e₁ ∙ refused-later _ _ e₅ ∙ refused-later _ _ e₆ ∙ refused-later _ _ e
+      pub sizes-0 : edgesTooMany (H .edgeCount) ≡ false → SizesJudged H short 0
+      sizes-0 e own = refused-later _ _ e₁ ∙ refused-later _ _ e₅ ∙ refused-later _ _ e
 
 -- WHAT EVERY STEP LOOKS AT
 module _ (H : Hierarchy) (d : Desk) (party : ℕ) (short : Bool) where
-  -- what is looked at behind the lent buffers
+  -- what is looked at behind them
   abbrev behind : List Check → List Check
-  behind own = 10 when (anyBelow (H .n) (intervalWrong H) || not (soundDesk H d)) ∷ 11 when ltb 31 party ∷ own
+  behind own =
+      7 when someEdge (edgeWrong (H .n)) (edgesOf (H .edges) (H .edgeCount))
+      ∷ 10 when (anyBelow (H .n) (intervalWrong H) || not (soundDesk H d))
+      ∷ 11 when ltb 31 party
+      ∷ own
 
-  pub judged-tables : (k : ℕ) → (k ≡ 0 → ⊥) → TablesJudged H short k → Judged H d party short k
-  judged-tables k e j own = j (behind own) ∙ rw (ne-eqb k 0 e) refl
+  pub judged-sizes : (k : ℕ) → (k ≡ 0 → ⊥) → SizesJudged H short k → Judged H d party short k
+  judged-sizes k e j own = j (behind own) ∙ rw (ne-eqb k 0 e) refl
 
-  module _ (k : ℕ) (e : k ≡ 0) (j : TablesJudged H short k) where
+  module _ (k : ℕ) (e : k ≡ 0) (j : SizesJudged H short k) where
     past : (own : List Check) → refusal (stepChecks H d party short own) ≡ refusal (behind own)
     past own = j (behind own) ∙ ap (λ (x : ℕ). refusalAfter x (refusal (behind own))) e
 
-    pub judged-10 : (anyBelow (H .n) (intervalWrong H) || not (soundDesk H d)) ≡ true → Judged H d party short 10
-    judged-10 e₁₀ own = past own ∙ refused-here _ _ e₁₀
+    pub judged-7 : someEdge (edgeWrong (H .n)) (edgesOf (H .edges) (H .edgeCount)) ≡ true → Judged H d party short 7
+    judged-7 e₇ own = past own ∙ refused-here _ _ e₇
 
-    module _ (e₁₀ : (anyBelow (H .n) (intervalWrong H) || not (soundDesk H d)) ≡ false) where
-      pub judged-11 : ltb 31 party ≡ true → Judged H d party short 11
-      judged-11 e₁₁ own = past own ∙ refused-later _ _ e₁₀ ∙ refused-here _ _ e₁₁
+    module _ (e₇ : someEdge (edgeWrong (H .n)) (edgesOf (H .edges) (H .edgeCount)) ≡ false) where
+      pub judged-10 : (anyBelow (H .n) (intervalWrong H) || not (soundDesk H d)) ≡ true → Judged H d party short 10
+      judged-10 e₁₀ own = past own ∙ refused-later _ _ e₇ ∙ refused-here _ _ e₁₀
 
-      pub judged-0 : ltb 31 party ≡ false → Judged H d party short 0
-      judged-0 e₁₁ own = past own ∙ refused-later _ _ e₁₀ ∙ refused-later _ _ e₁₁
+      module _ (e₁₀ : (anyBelow (H .n) (intervalWrong H) || not (soundDesk H d)) ≡ false) where
+        pub judged-11 : ltb 31 party ≡ true → Judged H d party short 11
+        judged-11 e₁₁ own = past own ∙ refused-later _ _ e₇ ∙ refused-later _ _ e₁₀ ∙ refused-here _ _ e₁₁
+
+        pub judged-0 : ltb 31 party ≡ false → Judged H d party short 0
+        judged-0 e₁₁ own = past own ∙ refused-later _ _ e₇ ∙ refused-later _ _ e₁₀ ∙ refused-later _ _ e₁₁
 
   -- how its own checks decide
   pub judged-own : (k : ℕ) → k ≡ 0 → Judged H d party short k → (own : List Check) → refusal (stepChecks H d party short own) ≡ refusal own

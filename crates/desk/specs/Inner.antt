@@ -9,15 +9,15 @@ use Rattle.lists.specs.Answer.{Check, refusal}
 use Rattle.locks.specs.Lent.{Hierarchy}
 use Rattle.sweeps.specs.declared.Swept.{Swept}
 use Rattle.desk.specs.declared.Desk.{Desk}
-use Rattle.desk.specs.Steps.{tableChecks, countGrants, stepChecks, nodeChecks}
+use Rattle.desk.specs.Steps.{sizeChecks, countGrants, stepChecks, nodeChecks}
 
 -- what is left to look at where the checks before gave k: 0 says that none of them holds
 abbrev pub refusalAfter : ℕ → Option ℕ → Option ℕ
 refusalAfter k own = cond (eqb k 0) own (some k)
 
 -- a step is refused with k by these checks, or by none of them (0)
-abbrev pub TablesJudged : Hierarchy → Bool → ℕ → Type 0
-TablesJudged H short k = (own : List Check) → refusal (tableChecks H short own) ≡ refusalAfter k (refusal own)
+abbrev pub SizesJudged : Hierarchy → Bool → ℕ → Type 0
+SizesJudged H short k = (own : List Check) → refusal (sizeChecks H short own) ≡ refusalAfter k (refusal own)
 
 -- a step is refused with k before it looks at its own checks, or with none of those (0)
 abbrev pub Judged : Hierarchy → Desk → ℕ → Bool → ℕ → Type 0

@@ -23,20 +23,20 @@ use Rattle.desk.specs.Sound.{soundDesk}
 
 -- WHAT EVERY STEP LOOKS AT: 1, 5 to 7, 10 and 11, then what is its own
 
--- of what every step looks at, what is asked of the lent buffers alone; `short` says that what is lent to this step alone is too short
-abbrev pub tableChecks : Hierarchy → (short : Bool) → List Check → List Check
-tableChecks H short own =
+-- of what every step looks at, what is asked of lengths and counts alone; `short` says that what is lent to this step alone is too short
+abbrev pub sizeChecks : Hierarchy → (short : Bool) → List Check → List Check
+sizeChecks H short own =
     1 when (tablesShort H || short)
     ∷ 5 when sizeWrong (H .n)
     ∷ 6 when edgesTooMany (H .edgeCount)
-    ∷ 7 when someEdge (edgeWrong (H .n)) (edgesOf (H .edges) (H .edgeCount))
     ∷ own
 
 -- what every step looks at; `own` is what it alone looks at
 abbrev pub stepChecks : Hierarchy → Desk → ℕ → (short : Bool) → List Check → List Check
 stepChecks H d party short own =
-    tableChecks H short
-    (10 when (anyBelow (H .n) (intervalWrong H) || not (soundDesk H d))
+    sizeChecks H short
+    (7 when someEdge (edgeWrong (H .n)) (edgesOf (H .edges) (H .edgeCount))
+    ∷ 10 when (anyBelow (H .n) (intervalWrong H) || not (soundDesk H d))
     ∷ 11 when ltb 31 party
     ∷ own)
 

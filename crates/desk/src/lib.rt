@@ -7,7 +7,7 @@ ghost use Rattle.locks.specs.Lent.{lent, spanned};
 ghost use Rattle.desk.specs.Desks.{freshDesk};
 ghost use Rattle.desk.specs.Steps.{countGrants, grantTo, queueLast, enterStep, getStep, putStep, leaveStep};
 ghost use Rattle.desk.specs.Answers.{Enters, Gets, Puts, Leaves};
-ghost use Rattle.desk.specs.Inner.{TablesJudged, Judged, NodeJudged, leftBy};
+ghost use Rattle.desk.specs.Inner.{SizesJudged, Judged, NodeJudged, leftBy};
 use arrivals::Listed;
 use arrivals::PARTIES;
 use locks::Lock;
@@ -71,9 +71,9 @@ pub struct LeaveStep {
     pub answer: LeaveAnswer,
 }
 
-// What every step asks of the lent buffers: the number of the first refusal that holds, or 0.
-fn judge_tables(n: usize, intervals: &[u16], edges: &[u16], edge_count: usize, short: bool) -> u8
-    ensures { λ r. ⌜ (r < 12) × TablesJudged (lent n (now (intervals .entry)) (now (edges .entry)) «edge_count») short r ⌝ }
+// What every step asks of lengths and counts: the number of the first refusal that holds, or 0.
+fn judge_sizes(n: usize, intervals: &[u16], edges: &[u16], edge_count: usize, short: bool) -> u8
+    ensures { λ r. ⌜ (r < 12) × SizesJudged (lent n (now (intervals .entry)) (now (edges .entry)) «edge_count») short r ⌝ }
 {
     if locks::tables_short(n, intervals, edges, edge_count) | short {
         return 1;
@@ -83,9 +83,6 @@ fn judge_tables(n: usize, intervals: &[u16], edges: &[u16], edge_count: usize, s
     }
     if hierarchy::EDGES < edge_count {
         return 6;
-    }
-    if hierarchy::edges_wrong(n, edges, edge_count) {
-        return 7;
     }
     0
 }
@@ -138,9 +135,12 @@ impl Desk {
     ) -> u8
         ensures { λ r. ⌜ (r < 12) × Judged (lent n (now (intervals .entry)) (now (edges .entry)) «edge_count») self party short r ⌝ }
     {
-        let k = judge_tables(n, intervals, edges, edge_count, short);
+        let k = judge_sizes(n, intervals, edges, edge_count, short);
         if k != 0 {
             return k;
+        }
+        if hierarchy::edges_wrong(n, edges, edge_count) {
+            return 7;
         }
         let entries = self.entries;
         let places = self.queue;
