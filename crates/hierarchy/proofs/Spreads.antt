@@ -1,23 +1,23 @@
 -- Flags that are spread over the edges until nothing changes. Assumes nothing.
-use mathlib.Core.Path.{_≡_, refl, sym, ap, _∙_}
+use mathlib.Core.Path.{_≡_, refl, sym, ap, subst, _∙_}
 use mathlib.Core.List.{List, [], _∷_}
 use mathlib.Core.Bool.{Bool, true, false, not}
 use Prim.Native.Nat.{ℕ, zero, suc, _+_, _-_, _/_, _≤_, _<_, min}
 use native.Mathlib.Omega.{arith}
 use lib.Dec.{eqb, ltb}
 use lib.ListN.{length, getD, set, drop, length-set, drop-of-length-le}
-use lib.Seq.{set-getD, set-out}
-use borrow.Author.Tests.{eqb-true, eqb-false, ltb-true, ltb-false}
-use Rattle.hierarchy.specs.Hierarchy.{edgesOf, flagged, flagAll, spread, spreads}
-use Rattle.hierarchy.specs.Inner.{endsAt, unflagged}
-use Rattle.lists.specs.Lists.{zeros, Went, Below, setIf}
+use lib.Seq.{set-getD, set-out, ext-getD}
+use borrow.Author.Tests.{eqb-true, eqb-false, ltb-true, ltb-false, not-true}
+use Rattle.hierarchy.specs.Hierarchy.{Edge, edgesOf, flagged, flagAll, spread, spreads}
+use Rattle.hierarchy.specs.Inner.{endsAt, unflagged, On, Stable, Grown}
+use Rattle.lists.specs.Lists.{oneIf, zeros, Went, Below, setIf}
 use Rattle.hierarchy.specs.declared.Ends.{Ends}
 use Rattle.lists.proofs.Bools.{bool, not-both, and-left, and-right}
 use Rattle.lists.proofs.Marks.{zeros-fall, set-get}
-use Rattle.hierarchy.proofs.EdgeLoops.{rest, rest-spread, end-spread}
-use Rattle.hierarchy.proofs.Reaches.{spread-long}
+use Rattle.hierarchy.proofs.EdgeLoops.{edge-here, rest, rest-spread, end-spread}
+use Rattle.hierarchy.proofs.Reaches.{spread-long, spread-on, spread-edge, new-flag, spread-only, spreads-long, less-zeros, spreads-enough, spreads-on, spreads-only}
 use Rattle.lists.proofs.Loops.{getD-any, drop-step}
-use Rattle.lists.proofs.Passes.{went-on}
+use Rattle.lists.proofs.Passes.{went-on, went-less}
 
 -- a pass at its edge e
 pub record Spreading (edges : List ℕ) (count : ℕ) (flags₀ : List ℕ) (e : ℕ) (changed : Bool) (flags : List ℕ) : Type 0 where
@@ -87,54 +87,104 @@ spread-bits (p ∷ c ∷ es) flags b = spread-bits es (setIf (not (eqb (getD fla
     one true i = set-get (λ (v : ℕ). v < 2) flags c 1 i 0 (omega arith) (b i)
     one false i = b i
 
--- where a pass changes nothing, no pass does
-still : (k : ℕ) (es flags : List ℕ) → spread es flags ≡ flags → spreads k es flags ≡ flags
+spreads-bits : (k : ℕ) (es flags : List ℕ) → Below 2 flags → Below 2 (spreads k es flags)
 unfolding spreads
-still zero es flags s = refl
-still (suc k) es flags s = ap (spreads k es) s ∙ still k es flags s
+spreads-bits zero es flags b = b
+spreads-bits (suc k) es flags b = spreads-bits k es (spread es flags) (spread-bits es flags b)
 
--- the loop of passes: as many as there are 0, at least, are left to do
-pub record Reaching (es flags₀ : List ℕ) (on : Bool) (flags : List ℕ) : Type 0 where
-  pub long : length flags ≡ length flags₀
-  pub bits : Below 2 flags
-  pub left : ℕ
-  pub enough : zeros flags ≤ left
-  pub same : spreads left es flags ≡ spreads (length flags₀) es flags₀
-  pub done : on ≡ false → spread es flags ≡ flags
+-- PASSES IN ANY ORDER
+module _ (es : List ℕ) where
+  pub grown-none : (flags : List ℕ) → Below 2 flags → Grown es flags flags
+  grown-none flags b = record { long = refl; bits = b; more = λ x o. o; within = λ s t f. f }
+
+  grown-then : (a b c : List ℕ) → Grown es a b → Grown es b c → Grown es a c
+  grown-then a b c g k =
+      record {
+        long = k .long ∙ g .long;
+        bits = k .bits;
+        more = λ x o. k .more x (g .more x o);
+        within = λ s t f. k .within s (λ p q e r. t p q e (omega (arith, g .long))) (g .within s t f);
+      }
+
+  -- where the parent is flagged, the child is
+  grown-flag : (flags₀ flags : List ℕ) (p c : ℕ) → Grown es flags₀ flags → Edge es p c → On flags p → Grown es flags₀ (set flags c 1)
+  grown-flag flags₀ flags p c g e h =
+      record {
+        long = length-set flags c 1 ∙ g .long;
+        bits = λ i. set-get (λ (v : ℕ). v < 2) flags c 1 i 0 (omega arith) (g .bits i);
+        more = λ x o. set-get (λ (v : ℕ). 1 ≤ v) flags c 1 x 0 (omega arith) (g .more x o);
+        within = λ s t f x o. new-flag (On s) flags c x (length flags₀) (g .long) o (λ r. t p c e r (g .within s t f p h)) (g .within s t f);
+      }
+
+  -- a pass from the first edge on
+  grown-spread : (flags : List ℕ) → Below 2 flags → Grown es flags (spread es flags)
+  grown-spread flags b =
+      record {
+        long = spread-long es flags;
+        bits = spread-bits es flags b;
+        more = spread-on es flags;
+        within = λ s t f. spread-only (On s) es flags (length flags) refl t f;
+      }
+
+  -- THE LOOP of passes
+  pub record Reaching (flags₀ : List ℕ) (on : Bool) (flags : List ℕ) : Type 0 where
+    pub grown : Grown es flags₀ flags
+    pub done : on ≡ false → spread es flags ≡ flags
+
+  pub reaching-start : (flags : List ℕ) → Below 2 flags → Reaching flags true flags
+  reaching-start flags b = record { grown = grown-none flags b; done = λ e. not-both true refl e }
+
+  -- a pass back, and one on
+  module _ (flags back flags′ : List ℕ) (g : Grown es flags back) (e : flags′ ≡ spread es back) where
+    pub reaching-more : (flags₀ : List ℕ) (on b : Bool) → Reaching flags₀ on flags → Went zeros b back flags′ → Reaching flags₀ b flags′
+    reaching-more flags₀ on b r w =
+        record {
+          grown = subst (Grown es flags₀) (sym e) (grown-then flags₀ back (spread es back) (grown-then flags₀ flags back (r .grown) g) (grown-spread back (g .bits)));
+          done = still b w;
+        }
+      where
+        still : (b : Bool) → Went zeros b back flags′ → b ≡ false → spread es flags′ ≡ flags′
+        still true w f = not-both true refl f
+        still false w f = ap (spread es) w ∙ sym e
+
+    pub reaching-less : (on b : Bool) → on ≡ true → Went zeros b back flags′ → oneIf b (zeros flags′) < oneIf on (zeros flags)
+    reaching-less on b t w =
+        let h : oneIf b (zeros flags′) < oneIf true (zeros back) = went-less zeros true b back flags′ refl w in
+        rw t (omega (arith, h, less-zeros flags back (g .long) (g .more)))
+
+-- a turn of a pass in any order, at edge e
+pub grown-turn : (edges : List ℕ) (count : ℕ) (flags₀ flags : List ℕ) (e : ℕ) (ends : Ends) → e < min count (length edges / 2) → ends ≡ endsAt edges e
+    → Grown (edgesOf edges count) flags₀ flags → flagged flags (ends .parent) ≡ true → Grown (edgesOf edges count) flags₀ (set flags (ends .child) 1)
+grown-turn edges count flags₀ flags e ends h at g on =
+    let d = eqb-false (getD flags (ends .parent) 0) 0 (not-true (eqb (getD flags (ends .parent) 0) 0) on) in
+    let edge = subst (λ (x : Ends). Edge (edgesOf edges count) (x .parent) (x .child)) (sym at) (edge-here edges count e h) in
+    grown-flag (edgesOf edges count) flags₀ flags (ends .parent) (ends .child) g edge (omega (arith, d))
+
+-- numbers that are 0 or 1 are the same where the one is 1 just when the other is
+same-bit : (a b : ℕ) → a < 2 → b < 2 → (1 ≤ a → 1 ≤ b) → (1 ≤ b → 1 ≤ a) → a ≡ b
+same-bit a b ha hb f g =
+    bool (eqb a 0)
+    (λ q. let z = eqb-true a 0 q in
+    bool (eqb b 0) (λ t. z ∙ sym (eqb-true b 0 t)) (λ t. let d = eqb-false b 0 t in absurd (omega (arith, z, g (omega (arith, d))))))
+    (λ q. let d = eqb-false a 0 q in omega (arith, d, f (omega (arith, d))))
 
 zeros-most : (l : List ℕ) → zeros l ≤ length l
 unfolding zeros
 zeros-most [] = omega arith
 zeros-most (x ∷ xs) = bool (eqb x 0) (λ a. rw a (omega (arith, zeros-most xs))) (λ a. rw a (omega (arith, zeros-most xs)))
 
-pub reaching-start : (es flags : List ℕ) → Below 2 flags → Reaching es flags true flags
-reaching-start es flags b =
-    record { long = refl; bits = b; left = length flags; enough = zeros-most flags; same = refl; done = λ e. not-both true refl e }
-
-pub reaching-more : (es flags₀ : List ℕ) (on b : Bool) (flags flags′ : List ℕ) → Reaching es flags₀ on flags → flags′ ≡ spread es flags → Went zeros b flags flags′ → Reaching es flags₀ b flags′
-unfolding spreads
-reaching-more es flags₀ on true flags flags′ r e w =
-    let k : suc (r .left - 1) ≡ r .left = omega (arith, r .enough) in
-    record {
-      long = ap length e ∙ spread-long es flags ∙ r .long;
-      bits = rw e (spread-bits es flags (r .bits));
-      left = r .left - 1;
-      enough = omega (arith, r .enough);
-      same = ap (spreads (r .left - 1) es) e ∙ ap (λ (j : ℕ). spreads j es flags) k ∙ r .same;
-      done = λ f. not-both true refl f;
-    }
-reaching-more es flags₀ on false flags flags′ r e w =
-    record {
-      long = ap length w ∙ r .long;
-      bits = rw w (r .bits);
-      left = r .left;
-      enough = rw w (r .enough);
-      same = rw w (r .same);
-      done = λ f. ap (spread es) w ∙ sym e;
-    }
-
-pub reaching-end : (es flags₀ : List ℕ) (on : Bool) (flags : List ℕ) → Reaching es flags₀ on flags → on ≡ false → flags ≡ spreads (length flags₀) es flags₀
-reaching-end es flags₀ on flags r f = sym (still (r .left) es flags (r .done f)) ∙ r .same
+-- flags that spread no further, and are no more than all such have, are those that passes give
+pub reaching-end : (es flags₀ : List ℕ) (on : Bool) (flags : List ℕ) → Below 2 flags₀ → Reaching es flags₀ on flags → on ≡ false
+    → flags ≡ spreads (length flags₀) es flags₀
+reaching-end es flags₀ on flags b r f =
+    let n : ℕ = length flags₀ in
+    let g = r .grown in
+    let stable : Stable n es flags = λ p c e k h. subst (λ (t : List ℕ). On t c) (r .done f) (spread-edge flags e h (omega (arith, g .long))) in
+    let all : List ℕ = spreads n es flags₀ in
+    ext-getD 0 flags all (g .long ∙ sym (spreads-long n es flags₀))
+    (λ i h. same-bit (getD flags i 0) (getD all i 0) (g .bits i) (spreads-bits n es flags₀ b i)
+    (g .within all (spreads-enough es n n flags₀ refl (zeros-most flags₀)) (spreads-on es n n flags₀) i)
+    (spreads-only es n (On flags) n flags₀ refl stable (g .more) i))
 
 -- THE NAMES
 

@@ -6,7 +6,7 @@ ghost use lib.ListN.{length, getD, set, drop, replicate};
 ghost use Rattle.lists.specs.Lists.{any, zeros, Went, Below};
 ghost use Rattle.lists.specs.Answer.{refusal, numberOf};
 ghost use Rattle.hierarchy.specs.Hierarchy.{edgesOf, someEdge, spread, spreads, flagged, inReach, flagAll, reachAll, edgeWrong, sameEdge, edgeTwice, sizeWrong, someUnreached, hierarchyChecks};
-ghost use Rattle.hierarchy.specs.Inner.{endsAt, unflagged};
+ghost use Rattle.hierarchy.specs.Inner.{endsAt, unflagged, Grown};
 
 // A hierarchy has at most 256 nodes
 pub const NODES: usize = 256;
@@ -255,13 +255,30 @@ fn spread_once(edges: &[u16], edge_count: usize, flags: &mut [u8]) -> bool
     changed
 }
 
-// Passes go on until nothing changes.
+// One pass over the edges, back from the last: where the parent is flagged, the child is.
+fn spread_back(edges: &[u16], edge_count: usize, flags: &mut [u8])
+    requires { ⌜ Below 2 (now flags) ⌝ }
+    ensures { λ _. ⌜ Grown (edgesOf (now (edges .entry)) «edge_count») (now (flags .entry)) (now (flags .exit)) ⌝ }
+{
+    let mut left = whole_edges(edges, edge_count);
+    while 0 < left {
+        left -= 1;
+        let ends = edge_at(edges, left);
+        let parent = ends.parent;
+        if has_flag(flags, parent) {
+            flag(flags, ends.child);
+        }
+    }
+}
+
+// Passes go on, one back and one on in turn, until the one on changes nothing: an order that is against the one is most often in favour of the other.
 fn spread_all(edges: &[u16], edge_count: usize, flags: &mut [u8])
     requires { ⌜ Below 2 (now flags) ⌝ }
     ensures { λ _. ⌜ now (flags .exit) ≡ spreads (length (now (flags .entry))) (edgesOf (now (edges .entry)) «edge_count») (now (flags .entry)) ⌝ }
 {
     let mut on = true;
     while on {
+        spread_back(edges, edge_count, flags);
         on = spread_once(edges, edge_count, flags);
     }
 }

@@ -1,3 +1,4 @@
+-- `flag` meets its contract: a node past the flags is passed over. Assumes nothing.
 use mathlib.Core.Path.{sym}
 use lib.Seq.{set-out}
 use borrow.Author.Needs.{needs}

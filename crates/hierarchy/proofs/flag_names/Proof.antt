@@ -1,3 +1,4 @@
+-- `flag_names` meets its contract: the names left, flagged over the flags as they are, give the flags of all. Assumes nothing.
 use Prim.Native.Nat.{_-_}
 use native.Mathlib.Omega.{arith}
 use lib.ListN.{length}

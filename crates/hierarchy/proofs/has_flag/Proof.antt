@@ -1,3 +1,4 @@
+-- `has_flag` meets its contract: a node past the flags has none. Assumes nothing.
 use lib.ListN.{List·getD-eq-default}
 use borrow.Author.Needs.{needs}
 use Rattle.hierarchy.proofs.has_flag.Statement.{statement}

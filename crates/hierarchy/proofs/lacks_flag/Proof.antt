@@ -1,3 +1,4 @@
+-- `lacks_flag` meets its contract: a node past the flags is not among them. Assumes nothing.
 use borrow.Author.Tests.{lt-ltb, le-ltb}
 use borrow.Author.Needs.{needs}
 use Rattle.hierarchy.proofs.lacks_flag.Statement.{statement}

@@ -1,3 +1,4 @@
+-- `spread_once` meets its contract: the edges left, spread over the flags as they are, give the pass. Assumes nothing.
 use mathlib.Core.Path.{sym, _∙_}
 use Prim.Native.Nat.{_-_, _/_, _<_, min}
 use native.Mathlib.Omega.{arith}

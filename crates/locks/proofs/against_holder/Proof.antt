@@ -1,34 +1,28 @@
+-- `against_holder` meets its contract: one answer for each stage. Assumes nothing.
 use Rattle.locks.specs.Stages.{againstHolder}
 use mathlib.Core.Path.{sym, ap, _∙_}
 use borrow.Author.Needs.{needs}
 use Rattle.locks.proofs.against_holder.Statement.{statement}
 use Rattle.locks.proofs.against_holder.Tie as tie
 
--- src/lib.rt:123:23
 enum-told : tie.Need-enum-told
 enum-told c = search needs
 
--- src/lib.rt:124:30
 enum-told-2 : tie.Need-enum-told-2
 enum-told-2 c = search needs
 
--- src/lib.rt:125:24
 enum-known-s : tie.Need-enum-known-s
 enum-known-s c = search needs
 
--- src/lib.rt:125:30
 conflict-requires : tie.Need-conflict-requires
 conflict-requires c κs = search needs
 
--- src/lib.rt:119:1
 returns : tie.Need-returns
 returns c = search needs
 
--- src/lib.rt:119:1
 returns-2 : tie.Need-returns-2
 returns-2 c = search needs
 
--- src/lib.rt:119:1
 returns-3 : tie.Need-returns-3
 returns-3 c = c .conflict .ensures ∙ sym (ap (againstHolder (c .before .before .before .before .args .l)) (c .before .before .s .given .1))
 

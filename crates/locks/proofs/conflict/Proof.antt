@@ -1,22 +1,19 @@
+-- `conflict` meets its contract: intervals apart are told first, then the modes decide. Assumes nothing.
 use mathlib.Core.Path.{sym}
 use borrow.Author.Tests.{lt-leb, le-leb}
 use borrow.Author.Needs.{needs}
 use Rattle.locks.proofs.conflict.Statement.{statement}
 use Rattle.locks.proofs.conflict.Tie as tie
 
--- src/lib.rt:108:9
 returns : tie.Need-returns
 returns c = simp (lt-leb _ _ (c .if1 .taken))
 
--- src/lib.rt:111:9
 returns-2 : tie.Need-returns-2
 returns-2 c = simp (le-leb _ _ (c .before .before .before .if1 .left), lt-leb _ _ (c .if2 .taken))
 
--- src/lib.rt:115:6
 both-reading-requires : tie.Need-both-reading-requires
 both-reading-requires c κs = search needs
 
--- src/lib.rt:104:1
 returns-3 : tie.Need-returns-3
 returns-3 c = simp (le-leb _ _ (c .before .before .before .before .if1 .left), le-leb _ _ (c .before .if2 .left), sym (c .both-reading .ensures))
 
