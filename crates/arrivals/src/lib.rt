@@ -1,4 +1,4 @@
-// Arrival lists: parties at the first places, each counted once. No public function asks anything of what it is given.
+// Arrival lists: parties at the first places, and how many. No public function asks anything of what it is given.
 ghost use mathlib.Core.Path.{_≡_};
 ghost use mathlib.Core.Bool.{not};
 ghost use mathlib.Core.List.{_∷_, [], _++_};

@@ -58,16 +58,16 @@ enterRight r =
     && zeroFrom (4 + nameCountIn r) r
 
 -- ORDER. Reading goes from record to record with a stage: 0 no record yet, 1 the size record and edges, 2 steps; 3 and 4 are the refusals
-abbrev pub Reading : Type 0
-Reading = ℕ
+abbrev pub ReadStage : Type 0
+ReadStage = ℕ
 
 -- a place in the order: whether a record there may come at a stage, and the stage after it; both may look at the stage and at the record
 pub record Place : Type 0 where
-  pub follows : Reading → List ℕ → Bool
-  pub leads : Reading → List ℕ → Reading
+  pub follows : ReadStage → List ℕ → Bool
+  pub leads : ReadStage → List ℕ → ReadStage
 
 -- the stages from one to another
-abbrev pub between : ℕ → ℕ → Reading → Bool
+abbrev pub between : ℕ → ℕ → ReadStage → Bool
 between least most stage = leb least stage && leb stage most
 
 -- one size record comes first
@@ -123,5 +123,5 @@ unfoldable pub recordRight : List ℕ → Bool
 recordRight r = rowOf r .right r
 
 -- the record may come at a stage
-unfoldable pub inOrder : Reading → List ℕ → Bool
+unfoldable pub inOrder : ReadStage → List ℕ → Bool
 inOrder stage r = rowOf r .place .follows stage r

@@ -15,7 +15,7 @@ use Rattle.desk.specs.Steps.{sizeChecks, countGrants, stepChecks, nodeCh
 abbrev pub refusalAfter : ℕ → Option ℕ → Option ℕ
 refusalAfter k own = cond (eqb k 0) own (some k)
 
--- a step is refused with k by these checks, or by none of them (0)
+-- a step is refused with k by what is asked of lengths and counts, or by none of that (0)
 abbrev pub SizesJudged : Hierarchy → Bool → ℕ → Type 0
 SizesJudged H short k = (own : List Check) → refusal (sizeChecks H short own) ≡ refusalAfter k (refusal own)
 

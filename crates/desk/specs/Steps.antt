@@ -23,7 +23,7 @@ use Rattle.desk.specs.Sound.{soundDesk}
 
 -- WHAT EVERY STEP LOOKS AT: 1, 5 to 7, 10 and 11, then what is its own
 
--- of what every step looks at, what is asked of lengths and counts alone; `short` says that what is lent to this step alone is too short
+-- of what every step looks at, what is asked of lengths and counts alone; `short` says that what is lent to this step alone is too short, `own` is what follows
 abbrev pub sizeChecks : Hierarchy → (short : Bool) → List Check → List Check
 sizeChecks H short own =
     1 when (tablesShort H || short)

@@ -1,5 +1,5 @@
-// The four steps called directly, for what no block file can show: nine names or none, tables or buffers too short, and all that is refused with 1, 5, 6, 7
-// or 10. Standard input has a line for each call; each is written out again with what the desk answers. A line's first letter says what it does. Behind its
+// The four steps called directly: above all what no block file can show, nine names or none, tables or buffers too short, and all that is refused with 1, 5,
+// 6, 7 or 10. Standard input has a line for each call; each is written out again with what the desk answers. A line's first letter says what it does. Behind its
 // word stand 22 digits of intervals, 22 of edges and 10 of names, then columns of numbers. Desk and values go on from line to line.
 ghost use lib.ListN.{length};
 ghost use mathlib.Core.Path.{_≡_};
@@ -10,7 +10,7 @@ use desk::GetAnswer;
 use desk::LeaveAnswer;
 use desk::PutAnswer;
 
-// The numbers of a line that every step takes, and two that a step has besides.
+// The numbers of a line that every step takes, and three that a step has besides.
 struct Call {
     n: usize,
     places: usize,

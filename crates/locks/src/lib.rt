@@ -103,7 +103,7 @@ pub fn is_waiting(s: Stage) -> bool
     }
 }
 
-// Whether a lock is for reading.
+// Whether a mode is reading.
 fn is_reading(m: Mode) -> bool
     ensures { λ r. ⌜ r ≡ isReading m ⌝ }
 {

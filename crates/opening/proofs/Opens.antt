@@ -33,8 +33,8 @@ use Rattle.replay.specs.Answers.{edgesRefusal, edgesInto, edgesMeaning, EdgesIn
 use Rattle.replay.proofs.Records.{records-length, edge-table-length, count-most}
 use Rattle.opening.specs.declared.OpenAnswer.{OpenAnswer}
 use Rattle.opening.specs.declared.OpenAnswer.the-variants.{Opened, Refused}
-use Rattle.opening.specs.Opening.{fileRows, builtChecks, openShort, openRefusal, Opening, openingOf, openFile, openMeaning, Opens, openedRun}
-use Rattle.opening.specs.Inner.{HierarchyOpened, RecordsOpened, openingIn, readingRefusal, buildingRefusal, FileOpened}
+use Rattle.opening.specs.Opening.{fileRows, builtChecks, openShort, openRefusal, Opening, openingOf, openingIn, openFile, openMeaning, Opens, openedRun}
+use Rattle.opening.specs.Inner.{HierarchyOpened, RecordsOpened, readingRefusal, buildingRefusal, FileOpened}
 use Rattle.block_laws.proofs.Laws.{read-whole}
 
 -- an accepted file has whole records, at most 3,968

@@ -2,8 +2,7 @@
 use mathlib.Core.Path.{_≡_}
 use mathlib.Core.List.{List, _++_}
 use mathlib.Core.Option.{Option}
-use Prim.Native.Nat.{ℕ, _/_}
-use lib.ListN.{length}
+use Prim.Native.Nat.{ℕ}
 use Rattle.lists.specs.Lists.{over}
 use Rattle.lists.specs.Answer.{refusal, answerOf, roomAfter}
 use Rattle.hierarchy.specs.Hierarchy.{hierarchyChecks}
@@ -11,7 +10,7 @@ use Rattle.intervals.specs.Intervals.{intervalTable}
 use Rattle.blocks.specs.File.{fileChecks, fileRecords}
 use Rattle.replay.specs.Replay.{sizeOf, edgeTable, edgeCountOf}
 use Rattle.opening.specs.declared.OpenAnswer.{OpenAnswer}
-use Rattle.opening.specs.Opening.{fileRows, builtChecks, Opening, openingOf, openMeaning}
+use Rattle.opening.specs.Opening.{fileRows, builtChecks, openingOf, openingIn, openMeaning}
 
 -- a hierarchy refused, or built into its places
 abbrev pub HierarchyOpened : ℕ → List ℕ → ℕ → ℕ → List ℕ → List ℕ → OpenAnswer → Type 0
@@ -23,10 +22,6 @@ HierarchyOpened n edges count total places places′ r =
 abbrev pub RecordsOpened : List (List ℕ) → ℕ → List ℕ → List ℕ → List ℕ → List ℕ → OpenAnswer → Type 0
 RecordsOpened rs total edges places edges′ places′ r =
     HierarchyOpened (sizeOf rs) (edgeTable rs) (edgeCountOf rs) total places places′ r × (edges′ ≡ over (edgeTable rs) edges)
-
--- what a file has where it is opened
-abbrev pub openingIn : List ℕ → Opening
-openingIn file = openingOf (sizeOf (fileRows file)) (edgeCountOf (fileRows file)) (length (fileRecords file) / 16)
 
 -- refused with 2 to 4, as a file
 abbrev pub readingRefusal : List ℕ → Option ℕ

@@ -42,6 +42,10 @@ pub record Opening : Type 0 where
 abbrev pub openingOf : ℕ → ℕ → ℕ → Opening
 openingOf n edges records = record { n = n; edges = edges; records = records }
 
+-- of a file
+abbrev pub openingIn : List ℕ → Opening
+openingIn file = openingOf (sizeOf (fileRows file)) (edgeCountOf (fileRows file)) (length (fileRecords file) / 16)
+
 -- what opening leaves: its answer, and the lent places
 pub record OpenResult : Type 0 where
   pub answer : Answer Opening
@@ -53,7 +57,7 @@ pub record OpenResult : Type 0 where
 unfoldable pub openFile : List ℕ → List ℕ → List ℕ → List ℕ → OpenResult
 openFile file records edges places =
     record {
-      answer = answerOf (openRefusal (openShort records edges places) file) (openingOf (sizeOf (fileRows file)) (edgeCountOf (fileRows file)) (length (fileRecords file) / 16));
+      answer = answerOf (openRefusal (openShort records edges places) file) (openingIn file);
       records = roomAfter (openRefusal (openShort records edges places) file) (fileRecords file) records;
       edges = roomAfter (openRefusal (openShort records edges places) file) (edgeTable (fileRows file)) edges;
       places = roomAfter (openRefusal (openShort records edges places) file) (intervalTable (sizeOf (fileRows file)) (edgeTable (fileRows file))) places;

@@ -53,7 +53,7 @@ pub fn size(records: &[u8]) -> usize
 }
 
 // 1 where record i is an edge, and 0 where it is not.
-fn edge_at(records: &[u8], i: usize) -> usize
+fn one_edge(records: &[u8], i: usize) -> usize
     requires { ⌜ 16 * i + 16 ≤ length (now records) ⌝ }
     ensures { λ r. ⌜ r ≡ one (eqb (kindOf (recordAt (now (records .entry)) i)) 2) ⌝ }
 {
@@ -71,7 +71,7 @@ fn edge_count(records: &[u8]) -> usize
     let mut count = 0;
     let mut i = 0;
     while i < total {
-        count += edge_at(records, i);
+        count += one_edge(records, i);
         i += 1;
     }
     count

@@ -1,4 +1,4 @@
--- The same over one hierarchy that stands beside the state: only for stating the theorems over a run in that form, too. Assumes nothing.
+-- A list of steps over one hierarchy that stands beside the state: only for stating the theorems over a run in that form, too. Assumes nothing.
 use mathlib.Core.List.{List, [], _∷_}
 use Prim.Native.Nat.{ℕ}
 use Rattle.desk.specs.declared.Desk.{Desk}

@@ -27,13 +27,13 @@ abbrev μ-loop : tie.MeasureT-loop
 loop-holds : tie.Need-loop-holds Inv-loop μ-loop
 loop-holds c = (omega arith, omega arith, refl, omega arith)
 
-edge-at-requires : tie.Need-edge-at-requires Inv-loop μ-loop
-edge-at-requires c κs = omega (arith, c .before .loop .inv .2, c .loop-test .taken)
+one-edge-requires : tie.Need-one-edge-requires Inv-loop μ-loop
+one-edge-requires c κs = omega (arith, c .before .loop .inv .2, c .loop-test .taken)
 
 add-count : tie.Need-add-count Inv-loop μ-loop
 add-count c =
     let v = c .before .before .loop .inv in let z = c .before .before .before .before .args in
-    omega (arith, v .1, v .2, c .before .loop-test .taken, c .edge-at .ensures, one-most (isEdge (recordAt (z .records .now) (c .before .before .loop .i))))
+    omega (arith, v .1, v .2, c .before .loop-test .taken, c .one-edge .ensures, one-most (isEdge (recordAt (z .records .now) (c .before .before .loop .i))))
 
 loop-again : tie.Need-loop-again Inv-loop μ-loop
 loop-again c =
@@ -41,9 +41,9 @@ loop-again c =
     let r : List ℕ = recordAt (z .records .now) i in
     let l : List (List ℕ) = recordList (z .records .now) in (
       omega arith,
-      omega (arith, v .1, c .edge-at .ensures, one-most (isEdge r)),
+      omega (arith, v .1, c .one-edge .ensures, one-most (isEdge r)),
       v .2,
-      ap (λ (k : ℕ). c .before .before .loop .count + k + count isEdge (drop (i + 1) l)) (c .edge-at .ensures)
+      ap (λ (k : ℕ). c .before .before .loop .count + k + count isEdge (drop (i + 1) l)) (c .one-edge .ensures)
           ∙ count-turn isEdge l i [] (c .before .before .loop .count) (v .3) (records-at (z .records .now) i (omega (arith, v .2, c .before .loop-test .taken)))
           (omega (arith, v .2, c .before .loop-test .taken, records-length (z .records .now))),
     )
@@ -60,7 +60,7 @@ edge-count-spec =
     Inv-loop
     μ-loop
     loop-holds
-    edge-at-requires
+    one-edge-requires
     add-count
     (λ c. omega arith)
     (λ c. omega arith)

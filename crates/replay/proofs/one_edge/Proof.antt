@@ -1,4 +1,4 @@
--- `edge_at` meets its contract: the byte read is the record's kind. Assumes nothing.
+-- `one_edge` meets its contract: the byte read is the record's kind. Assumes nothing.
 use mathlib.Core.Path.{sym, ap, _∙_}
 use Prim.Native.Nat.{ℕ}
 use lib.Dec.{eqb}
@@ -6,8 +6,8 @@ use borrow.Author.Needs.{needs}
 use borrow.Author.Tests.{eq-eqb, ne-eqb}
 use Rattle.lists.specs.Lists.{one}
 use Rattle.replay.proofs.Records.{record-kind}
-use Rattle.replay.proofs.edge_at.Statement.{statement}
-use Rattle.replay.proofs.edge_at.Tie as tie
+use Rattle.replay.proofs.one_edge.Statement.{statement}
+use Rattle.replay.proofs.one_edge.Tie as tie
 
 returns : tie.Need-returns
 returns c = let z = c .before .before .before .args in sym (ap one (ap (λ (k : ℕ). eqb k 2) (record-kind (z .records .now) (z .i) ∙ sym (c .before .byte .ensures)) ∙ eq-eqb _ _ (c .if1 .taken)))
@@ -15,8 +15,8 @@ returns c = let z = c .before .before .before .args in sym (ap one (ap (λ (k : 
 returns-2 : tie.Need-returns-2
 returns-2 c = let z = c .before .before .before .args in sym (ap one (ap (λ (k : ℕ). eqb k 2) (record-kind (z .records .now) (z .i) ∙ sym (c .before .byte .ensures)) ∙ ne-eqb _ _ (c .if1 .left)))
 
-pub edge-at-spec : {M : Type 1} → statement M
-edge-at-spec =
+pub one-edge-spec : {M : Type 1} → statement M
+one-edge-spec =
     tie.close
     (tie.spec
     (λ c. search needs)
