@@ -1,10 +1,6 @@
-// The documents' cases that must be seen from running code. Standard input has a line for each; each is written out again with what the code answers.
-// A line's first letter says what it does, and its numbers are all that is taken from the rest. Between lines only the records stay.
-ghost use lib.ListN.{length};
-ghost use mathlib.Core.Path.{_≡_};
+// The documents' cases of building, covers and reach that must be seen from running code. Standard input has a line for each; each is written out again with
+// what the code answers. A line's first letter says what it does, and its numbers are all that is taken from the rest.
 ghost use Prim.Native.Nat.{_≤_};
-use blocks::ReadAnswer;
-use blocks::WriteAnswer;
 use intervals::BuildAnswer;
 
 // LINES. Whether a byte is a digit.
@@ -177,93 +173,25 @@ fn reach_line(line: &[u8]) {
     say_bytes(&flags);
 }
 
-// FILES. 129 blocks of a byte.
-fn large(x: u8) -> [u8; 66048]
-    ensures { λ r. ⌜ 66048 ≡ length r ⌝ }
-{
-    [x; 66048]
-}
-
-// Writes the line's 16 numbers behind two, over and over, into the records from a place up to another.
-fn store(line: &[u8], records: &mut [u8]) {
-    let from = number(line, 0);
-    let end = size(line, 1, records.len());
-    let mut i = from;
-    while i < end {
-        records[i] = (number(line, 2 + (i - from) % 16) % 256) as u8;
-        i += 1;
-    }
-}
-
-// A part of some bytes: the first so many, or all where there are fewer.
-fn head(bytes: &[u8], k: usize) -> &[u8] {
-    if k <= bytes.len() {
-        return &bytes[0..k];
-    }
-    bytes
-}
-
-// Says the check of some bytes.
-fn say_check(bytes: &[u8]) {
-    io::write_all(1, b", check ");
-    io::print_hex(1, octets::block_check(bytes) as u64, 8);
-}
-
-// Writes so many records out of so many bytes into so many of a file.
-fn write(line: &[u8], records: &[u8], file: &mut [u8]) {
-    let count = number(line, 0);
-    let held = head(records, number(line, 1));
-    let room = size(line, 2, file.len());
-    let answer = blocks::write(held, count, &mut file[0..room]);
-    match answer {
-        WriteAnswer::Blocks(k) => say(b": blocks ", k),
-        WriteAnswer::Refused(k) => say(b": refused ", k as usize),
-    }
-}
-
-// Reads so many bytes of the file into so many of the records.
-fn read(line: &[u8], file: &[u8], records: &mut [u8]) {
-    let held = head(file, number(line, 4));
-    let room = size(line, 5, records.len());
-    let answer = blocks::read(held, &mut records[0..room]);
-    match answer {
-        ReadAnswer::Records(k) => say(b"; records ", k),
-        ReadAnswer::Refused(k) => say(b"; refused ", k as usize),
-    }
-}
-
-// Writes records into zeros, puts zeros over so many bytes of the records, and reads them back.
-fn file_line(line: &[u8], records: &mut [u8]) {
-    let mut file = large(0);
-    write(line, records, &mut file);
-    say_check(&file);
-    octets::put_zeros(number(line, 3), 0, records);
-    read(line, &file, records);
-    say_check(records);
-}
-
 // ALL LINES. What a line asks for.
-fn answer(line: &[u8], records: &mut [u8]) {
+fn answer(line: &[u8]) {
     match octets::byte(line, 0) {
         b'b' => build_line(line),
         b'c' => cover_line(line),
         b'i' => reach_line(line),
-        b'R' => store(line, records),
-        b'w' => file_line(line, records),
         _ => {}
     }
 }
 
 // Each line is written out, then what it asks for is done.
 fn run(text: &[u8]) {
-    let mut records = large(9);
     let mut at = 0;
     while at < text.len() {
         let end = bytes::scan::find(text, at, text.len(), 10);
         let line = &text[at..end];
         at = end + 1;
         io::write_all(1, line);
-        answer(line, &mut records);
+        answer(line);
         io::write_all(1, b"\n");
     }
 }

@@ -1,16 +1,15 @@
--- `run` is safe and ends: each line's end lies behind its start, and the records keep their length. Assumes nothing.
+-- `run` is safe and ends: each line's end lies behind its start. Assumes nothing.
 use Prim.Native.Nat.{_-_}
-use mathlib.Core.Path.{_≡_}
 use lib.ListN.{length}
 use borrow.Author.Needs.{needs}
 use Rattle.cases.proofs.run.Statement.{statement}
 use Rattle.cases.proofs.run.Tie as tie
 
 abbrev Inv-loop : tie.InvT-loop
-Inv-loop text records₀ at₀ t6 records at = 66048 ≡ length records
+Inv-loop text at₀ t5 at = Unit {0}
 
 abbrev μ-loop : tie.MeasureT-loop
-μ-loop text records₀ at₀ t6 records at = length text - at
+μ-loop text at₀ t5 at = length text - at
 
 pub run-spec : {M : Type 1} → statement M
 run-spec =
@@ -18,18 +17,16 @@ run-spec =
     (tie.spec
     Inv-loop
     μ-loop
+    (λ c. tt)
+    (λ c κs. search needs)
+    (λ c. search needs)
+    (λ c. search needs)
+    (λ c. search needs)
+    (λ c. search needs)
+    (λ c κs. search needs)
     (λ c κs. search needs)
     (λ c. search needs)
     (λ c κs. search needs)
     (λ c. search needs)
-    (λ c. search needs)
-    (λ c. search needs)
-    (λ c. search needs)
-    (λ c κs. search needs)
-    (λ c. search needs)
-    (λ c κs. search needs)
-    (λ c. search needs)
-    (λ c κs. search needs)
-    (λ c. search needs)
-    (λ c. search needs)
+    (λ c. tt)
     (λ c. search needs))

@@ -3,8 +3,8 @@ use Prim.Native.Nat.{_≤_, _-_}
 use mathlib.Core.Path.{_≡_}
 use lib.ListN.{length}
 use borrow.Author.Needs.{needs}
-use Rattle.cases.proofs.store.Statement.{statement}
-use Rattle.cases.proofs.store.Tie as tie
+use Rattle.file_cases.proofs.store.Statement.{statement}
+use Rattle.file_cases.proofs.store.Tie as tie
 
 abbrev Inv-loop : tie.InvT-loop
 Inv-loop line records₀ from end i₀ records i = (from ≤ i) × (length records ≡ length records₀)
