@@ -2,3 +2,4 @@
 pub mod Rows
 pub mod Facts
 pub mod Serializable
+pub mod Results

@@ -26,7 +26,7 @@ use Rattle.desk.specs.declared.Desk.{Desk}
 use Rattle.locks.specs.Lent.{Hierarchy, lowIn, highIn, coverIn, coverRight, tablesShort, intervalWrong, lockOn}
 use Rattle.locks.specs.Stages.{ofLock}
 use Rattle.parties.specs.Sound.{listsParties, listsOnce, listsWaiting, intervalsReal, holdersApart, waitersHeldUp, soundParties}
-use Rattle.desk.specs.Desks.{stageAt}
+use Rattle.desk.specs.Desks.{freshDesk, stageAt}
 use Rattle.desk.specs.Sound.{soundDesk}
 use Rattle.desk.specs.Steps.{putOwn, leaveOwn, enterOwn, stepChecks, enterRefusal, free, enterIf, enterUnless, enterStep}
 use Rattle.desk.specs.Steps.{nodeChecks, valueChecks, getUnless, getStep, putUnless, putStep, leaveRefusal, leaveUnless, leaveStep}
@@ -36,7 +36,9 @@ use Rattle.runs.specs.Over.{startOver, runOver}
 use Rattle.runs.proofs.Lends.{low-lent, high-lent}
 use Rattle.runs.proofs.Runs.{run-hierarchy, run-over}
 use Rattle.history.specs.Serial.{Built}
+use Rattle.history.specs.Results.{Made, AllMeet, toldByAll, lastDesk}
 use Rattle.history.proofs.Serializable.{built-two-each}
+use Rattle.history.proofs.Results.{stepsFor, results-run}
 use Rattle.soundness.specs.Refused.{isRefusal, refusedWith}
 use Rattle.soundness.proofs.Laws.{unchanged-get, unchanged-put, fresh-sound}
 use Rattle.soundness.proofs.Orderly.{Shaped}
@@ -264,6 +266,18 @@ pub run-sound : (H : Hierarchy) → Built H → (values : List ℕ) (steps : Lis
 run-sound H b values steps =
     ap (λ (K : Hierarchy). soundDesk K ((run steps (start H values)) .state .desk)) (sym (run-hierarchy steps (start H values)))
     ∙ run-fine steps (start H values) (start-fine H values b) .0 .sound
+
+-- OF A HOST'S OWN CALLS, whose results meet the methods' contracts: none was refused with 10,
+pub results-never-ten : (H : Hierarchy) → Built H → (values : List ℕ) (made : List Made) → AllMeet H freshDesk values made
+    → any (refusedWith 10) (toldByAll made) ≡ false
+results-never-ten H b values made met =
+    sym (ap (λ (r : Ran). any (refusedWith 10) (r .events)) (results-run H made freshDesk values met)) ∙ never-ten H b values (stepsFor H values made)
+
+-- and the desk that the last one handed back is sound
+pub results-sound : (H : Hierarchy) → Built H → (values : List ℕ) (made : List Made) → AllMeet H freshDesk values made
+    → soundDesk H (lastDesk freshDesk made) ≡ true
+results-sound H b values made met =
+    sym (ap (λ (r : Ran). soundDesk H (r .state .desk)) (results-run H made freshDesk values met)) ∙ run-sound H b values (stepsFor H values made)
 
 -- THE SAME with the hierarchy beside the state
 pub never-ten-over : (H : Hierarchy) → Built H → (values : List ℕ) (steps : List Step) → any (refusedWith 10) ((runOver H steps (startOver values)) .events) ≡ false

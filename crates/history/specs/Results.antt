@@ -1,0 +1,83 @@
+-- A host's own list of calls, each with its result: the struct that the method handed back, and the buffer after. Assumes nothing.
+use mathlib.Core.Path.{_≡_}
+use mathlib.Core.List.{List, [], _∷_, map}
+use Prim.Native.Nat.{ℕ}
+use lib.ListN.{length, take}
+use Rattle.hierarchy.specs.Hierarchy.{edgesOf}
+use Rattle.locks.specs.declared.Mode.{Mode}
+use Rattle.locks.specs.Lent.{Hierarchy, lent}
+use Rattle.desk.specs.declared.Desk.{Desk}
+use Rattle.desk.specs.declared.EnterStep.{EnterStep}
+use Rattle.desk.specs.declared.GetStep.{GetStep}
+use Rattle.desk.specs.declared.PutStep.{PutStep}
+use Rattle.desk.specs.declared.LeaveStep.{LeaveStep}
+use Rattle.desk.specs.Steps.{enterStep, getStep, putStep, leaveStep}
+use Rattle.desk.specs.Answers.{enterMeaning, getMeaning, putMeaning, leaveMeaning, Enters, Gets, Puts, Leaves}
+use Rattle.runs.specs.Run.{restored, Event, entered, got, stored, left, listed}
+
+-- a buffer is lent of a table: it has the table's numbers as far as both go, so it may be shorter, or have anything behind them
+abbrev pub LentOf : List ℕ → List ℕ → Type 0
+LentOf table buffer = take (length buffer) table ≡ take (length table) buffer
+
+-- which step it was, what it was given besides the hierarchy and the desk, and its result
+pub data Result : Type 0 where
+  enter : (party : ℕ) (mode : Mode) (names : List ℕ) (nameCount : ℕ) (r : EnterStep) → Result
+  get : (party node : ℕ) (values : List ℕ) (r : GetStep) → Result
+  put : (party node value : ℕ) (values : List ℕ) (r : PutStep) (after : List ℕ) → Result
+  leave : (party : ℕ) (list : List ℕ) (r : LeaveStep) (after : List ℕ) → Result
+
+-- a call that was made: the two tables as it was lent them, and the rest
+pub record Made : Type 0 where
+  pub intervals : List ℕ
+  pub edges : List ℕ
+  pub result : Result
+
+-- THE CONTRACT of its method is met by the result, on a hierarchy as lent, a desk, and values of which get and put are lent
+abbrev pub Meets : Hierarchy → Desk → List ℕ → Result → Type 0
+Meets K d values (enter party mode names nameCount r) = Enters r (enterStep K d party mode names nameCount)
+Meets K d values (get party node buffer r) = LentOf values buffer × Gets r (getStep K d party node buffer)
+Meets K d values (put party node value buffer r after) = LentOf values buffer × Puts r after (putStep K d party node value buffer)
+Meets K d values (leave party list r after) = Leaves r after (leaveStep K d party list)
+
+-- the desk that the call handed back
+abbrev pub deskFrom : Result → Desk
+deskFrom (enter party mode names nameCount r) = r .desk
+deskFrom (get party node buffer r) = r .desk
+deskFrom (put party node value buffer r after) = r .desk
+deskFrom (leave party list r after) = r .desk
+
+-- the values as the call left them
+abbrev pub valuesFrom : List ℕ → Result → List ℕ
+valuesFrom values (enter party mode names nameCount r) = values
+valuesFrom values (get party node buffer r) = values
+valuesFrom values (put party node value buffer r after) = restored values after
+valuesFrom values (leave party list r after) = values
+
+-- what the book is told of it: the answer that the struct has, and for leave the list that stands in the buffer
+abbrev pub toldBy : Result → Event ℕ
+toldBy (enter party mode names nameCount r) = entered party (enterMeaning (r .answer))
+toldBy (get party node buffer r) = got party node (getMeaning (r .answer))
+toldBy (put party node value buffer r after) = stored party node value (putMeaning (r .answer))
+toldBy (leave party list r after) = left party (listed after (leaveMeaning (r .answer)))
+
+-- each call of a list was lent of the hierarchy, and meets its contract on the desk that the one before handed back and the values as last left
+unfoldable pub AllMeet : Hierarchy → Desk → List ℕ → List Made → Type 0
+AllMeet H d values [] = Unit
+AllMeet H d values (m ∷ ms) =
+    LentOf (H .intervals) (m .intervals) × LentOf (edgesOf (H .edges) (H .edgeCount)) (m .edges)
+    × Meets (lent (H .n) (m .intervals) (m .edges) (H .edgeCount)) d values (m .result)
+    × AllMeet H (deskFrom (m .result)) (valuesFrom values (m .result)) ms
+
+-- the events of a list of calls
+abbrev pub toldByAll : List Made → List (Event ℕ)
+toldByAll ms = map (λ m. toldBy (m .result)) ms
+
+-- the desk that the last call handed back
+unfoldable pub lastDesk : Desk → List Made → Desk
+lastDesk d [] = d
+lastDesk d (m ∷ ms) = lastDesk (deskFrom (m .result)) ms
+
+-- the values as the last call left them
+unfoldable pub lastValues : List ℕ → List Made → List ℕ
+lastValues values [] = values
+lastValues values (m ∷ ms) = lastValues (valuesFrom values (m .result)) ms
