@@ -8,8 +8,9 @@ use Rattle.hierarchy.specs.Hierarchy.{edgesOf}
 use Rattle.locks.specs.Lent.{Hierarchy, lent}
 use Rattle.desk.specs.declared.Desk.{Desk}
 use Rattle.desk.specs.Desks.{freshDesk}
-use Rattle.runs.specs.Run.{Lending, part, lend, Call, enter, get, put, leave, Step, lentTo, State, start}
-use Rattle.runs.specs.Run.{Moved, afterEnter, afterGet, afterPut, afterLeave, moveCall, move, alsoRan, run}
+use Rattle.lists.specs.Answer.{Answer}
+use Rattle.runs.specs.Run.{Lending, part, lend, restored, Call, enter, get, put, leave, Step, lentTo, Event, entered, got, stored, left, State}
+use Rattle.runs.specs.Run.{Moved, afterEnter, afterGet, afterPut, listed, afterLeave, moveCall, move, alsoRan, run}
 use Rattle.history.specs.Serial.{Built, Serial, SerialSteps}
 use Rattle.history.specs.Results.{LentOf, Result, enter as entering, get as getting, put as putting, leave as leaving, Made, Meets}
 use Rattle.history.specs.Results.{deskFrom, valuesFrom, toldBy, AllMeet, toldByAll, lastDesk, lastValues}
@@ -51,14 +52,24 @@ stepsFor H values (m ∷ ms) = stepFor H values m ∷ stepsFor H (valuesFrom val
 abbrev between : Hierarchy → Desk → List ℕ → State
 between H d values = record { hierarchy = H; desk = d; values = values }
 
+-- two steps over a hierarchy are one where desk, values and event are
+moved-alike : (H : Hierarchy) {d d′ : Desk} {values values′ : List ℕ} {event event′ : Event ℕ} → d ≡ d′ → values ≡ values′ → event ≡ event′
+    → _≡_ {A = Moved} (record { state = between H d values; event = event }) (record { state = between H d′ values′; event = event′ })
+moved-alike H e v t = rw (e, v, t) refl
+
+left-alike : (party : ℕ) {list list′ : List ℕ} {a a′ : Answer ℕ} → list ≡ list′ → a ≡ a′ → _≡_ {A = Event ℕ} (left party (listed list a)) (left party (listed list′ a′))
+left-alike party l e = rw (l, e) refl
+
 -- one call that meets its contract is that step
 call-moves : (H K : Hierarchy) (d : Desk) (values : List ℕ) (r : Result) → Meets K d values r
     → moveCall K (callFor values r) (between H d values) ≡ record { state = between H (deskFrom r) (valuesFrom values r); event = toldBy r }
 unfolding moveCall callFor afterEnter afterGet afterPut afterLeave
-call-moves H K d values (entering party mode names nameCount r) (e, a) = rw (e, a) refl
-call-moves H K d values (getting party node buffer r) (l, (e, a, c)) = rw (lend-of values buffer l, e, a) refl
-call-moves H K d values (putting party node value buffer r after) (l, (e, a, v)) = rw (lend-of values buffer l, e, a, v) refl
-call-moves H K d values (leaving party list r after) (e, a, v) = rw (e, a, v) refl
+call-moves H K d values (entering party mode names nameCount r) (e, a) = moved-alike H (sym e) refl (sym (ap (entered party) a))
+call-moves H K d values (getting party node buffer r) (l, (e, a, c)) =
+    rw (lend-of values buffer l) (moved-alike H (sym e) refl (sym (ap (got party node) a)))
+call-moves H K d values (putting party node value buffer r after) (l, (e, a, v)) =
+    rw (lend-of values buffer l) (moved-alike H (sym e) (sym (ap (restored values) v)) (sym (ap (stored party node value) a)))
+call-moves H K d values (leaving party list r after) (e, a, v) = moved-alike H (sym e) refl (left-alike party (sym v) (sym a))
 
 -- the calls of a list are those steps, one after the other
 pub results-run : (H : Hierarchy) (ms : List Made) (d : Desk) (values : List ℕ) → AllMeet H d values ms
