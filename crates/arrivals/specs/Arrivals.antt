@@ -5,7 +5,7 @@ use Prim.Native.Nat.{ℕ}
 use lib.ListN.{length, getD, take, replicate}
 use Rattle.arrivals.specs.declared.Listed.{Listed}
 
--- the party at a place of the arrival list
+-- the party at a place of the arrival list; past its end stands 0
 abbrev pub listedIn : List ℕ → ℕ → ℕ
 listedIn queue i = getD queue i 0
 

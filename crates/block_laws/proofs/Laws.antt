@@ -1,6 +1,6 @@
 -- THEOREMS: the two round trips of block files, over the definitions that the contracts of `read` and `write` cite. Assumes nothing.
 use mathlib.Core.Path.{_≡_, refl, sym, ap, _∙_}
-use mathlib.Core.Bool.{Bool, false, cond, _&&_}
+use mathlib.Core.Bool.{Bool, true, false, cond, _&&_}
 use mathlib.Core.List.{List, _++_}
 use mathlib.Core.Option.{Option, none, some}
 use Prim.Native.Nat.{ℕ, zero, suc, _+_, _*_, _/_, _%_, _<_, _≤_}
@@ -13,13 +13,14 @@ use Rattle.lists.specs.Lists.{over, Below}
 use Rattle.lists.specs.Answer.{done, refused, answerOf}
 use Rattle.lists.proofs.Bools.{bool, and-left, and-right, or-left}
 use Rattle.lists.proofs.Refusals.{refusal-none}
-use Rattle.blocks.specs.Block.{afterRecords, blockOf}
+use Rattle.blocks.specs.Record.{recordRight}
+use Rattle.blocks.specs.Block.{afterRecord, afterRecords, blockOf}
 use Rattle.blocks.specs.File.{afterBlocks, recordsOf, blocksOf, wholeBlocks, fileStage, fileRecords, notBlocks, readRefusal}
 use Rattle.blocks.specs.File.{FileResult, readFile, blocksFor, fileOf, recordsWrong, writeRefusal, writeFile}
 use Rattle.blocks.proofs.Stages.{blocks-most}
 use Rattle.blocks.proofs.Making.{length-block}
 use Rattle.blocks.proofs.Answers.{blocks-facts, read-refuses, read-gives, read-1, read-none, write-refuses, write-gives, write-room, write-none, right-records, stage-some}
-use Rattle.block_laws.proofs.Pieces.{records-front, records-some}
+use Rattle.block_laws.proofs.Pieces.{records-front, records-stuck, records-some}
 use Rattle.block_laws.proofs.ManyBlocks.{read-write, read-accepts, write-read, total}
 
 -- WHAT ACCEPTANCE SAYS
@@ -82,6 +83,23 @@ read-whole file room n e =
     let r = read file room n e in
     let b = blocks-facts file (r .whole) in
     let a = read-accepts (wholeBlocks file) 0 0 file (b .0) (r .good) in (omega (arith, a .0, r .count), omega (arith, a .0, a .1, b .2, r .count), r .left)
+
+-- and they are records that writing takes
+pub read-stage : (file room : List ℕ) (n : ℕ) → readFile file room .answer ≡ done n → afterRecords 0 n (fileRecords file) ≤ 2
+read-stage file room n e =
+    let r = read file room n e in
+    let b = blocks-facts file (r .whole) in
+    let a = read-accepts (wholeBlocks file) 0 0 file (b .0) (r .good) in
+    let same : total (wholeBlocks file) file ≡ n = omega (arith, a .0, r .count) in
+    omega (arith, ap (λ (k : ℕ). afterRecords 0 k (fileRecords file)) same, a .3, r .good)
+
+-- each of records that do not lead to a refusal is right
+pub record-right : (k stage : ℕ) (s : List ℕ) → afterRecords stage (suc k) s ≤ 2 → (recordRight (take 16 s) ≡ true) × (afterRecords (afterRecord stage (take 16 s)) k (drop 16 s) ≤ 2)
+unfolding afterRecords afterRecord
+record-right k stage s h = bool (recordRight (take 16 s)) (λ e. (e, h)) (λ e. absurd (omega (arith, records-stuck k _ (drop 16 s) (wrong e))))
+  where
+    wrong : recordRight (take 16 s) ≡ false → 3 ≤ afterRecord stage (take 16 s)
+    wrong e = rw e (omega arith)
 
 -- a result under other names of its count and bytes
 same-result : {m n : ℕ} {xs ys : List ℕ} (room : List ℕ) → m ≡ n → xs ≡ ys

@@ -71,7 +71,7 @@ fn zero_but_value(r: &[u8], at: usize) -> bool
 }
 
 // Whether a record is right by itself, by its kind's row.
-fn record_right(r: &[u8]) -> bool
+pub fn record_right(r: &[u8]) -> bool
     ensures { λ ok. ⌜ ok ≡ recordRight (now (r .entry)) ⌝ }
 {
     let kind = octets::byte(r, 0);

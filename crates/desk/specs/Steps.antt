@@ -67,6 +67,7 @@ pub data Admission : Type 0 where
   granted : (cover : ℕ) → Admission
   waits : Admission
 
+-- what enter leaves: the next desk, and its answer
 pub record EnterResult : Type 0 where
   pub desk : Desk
   pub answer : Answer Admission
@@ -137,6 +138,7 @@ pub record NodeFacts (H : Hierarchy) (d : Desk) (party node : ℕ) : Type 0 wher
 abbrev pub valueChecks : Hierarchy → Desk → ℕ → ℕ → List ℕ → List Check → List Check
 valueChecks H d party node values own = stepChecks H d party (ltb (length values) (H .n)) (nodeChecks H d party node own)
 
+-- what get leaves: the next desk, and its answer, a value
 pub record GetResult : Type 0 where
   pub desk : Desk
   pub answer : Answer ℕ
@@ -152,6 +154,7 @@ getStep H d party node values = getUnless (refusal (valueChecks H d party node v
 
 -- PUT
 
+-- what put leaves: the next desk, the values in what it was lent, and its answer
 pub record PutResult : Type 0 where
   pub desk : Desk
   pub values : List ℕ
@@ -177,6 +180,7 @@ putStep H d party node value values =
 abbrev pub afterLeaving : Desk → ℕ → Sweep
 afterLeaving d party = leavingOf (d .entries) (queueOf d) party
 
+-- what leave leaves: the next desk, the lent list, and its answer, the count of the parties granted
 pub record LeaveResult : Type 0 where
   pub desk : Desk
   pub list : List ℕ

@@ -50,22 +50,25 @@ pub enum LeaveAnswer {
     Refused(u8),
 }
 
-// What a step hands back: the next desk, and its answer.
+// What enter hands back: the next desk, and its answer.
 pub struct EnterStep {
     pub desk: Desk,
     pub answer: EnterAnswer,
 }
 
+// What get hands back.
 pub struct GetStep {
     pub desk: Desk,
     pub answer: GetAnswer,
 }
 
+// What put hands back.
 pub struct PutStep {
     pub desk: Desk,
     pub answer: PutAnswer,
 }
 
+// What leave hands back.
 pub struct LeaveStep {
     pub desk: Desk,
     pub answer: LeaveAnswer,

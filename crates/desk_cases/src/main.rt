@@ -9,6 +9,7 @@ use desk::EnterAnswer;
 use desk::GetAnswer;
 use desk::LeaveAnswer;
 use desk::PutAnswer;
+use locks::Mode;
 
 // The numbers of a line that every step takes, and three that a step has besides.
 struct Call {
@@ -151,11 +152,19 @@ fn say_list(list: &[u8; 34]) {
     }
 }
 
+// The mode that a line asks for: 1 reading, any other writing.
+fn mode(asked: usize) -> Mode {
+    if asked == 1 {
+        return Mode::Reading;
+    }
+    Mode::Writing
+}
+
 // STEPS. Enters, with so many names lent, a name count and a mode.
 fn enter(line: &[u8], c: Call, desk: Desk, intervals: &[u16], edges: &[u16]) -> Desk {
     let lent = c.lent % 11;
     let names = table(line, 2, lent);
-    let mode = locks::mode_numbered((c.second % 3) as u32);
+    let mode = mode(c.second);
     let step = desk.enter(
         c.n,
         intervals,

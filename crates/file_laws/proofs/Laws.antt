@@ -22,7 +22,7 @@ use Rattle.blocks.specs.File.{fileChecks, fileRecords}
 use Rattle.locks.specs.Lent.{Hierarchy}
 use Rattle.desk.specs.Steps.{granted as admitted, Admission, waits as queued}
 use Rattle.runs.specs.Run.{Call, Event, entered, got, stored, left, State, Moved, afterEnter, afterGet, afterPut, afterLeave, moveCall, move, alsoRan, run}
-use Rattle.replay.specs.Replay.{enterCall, getCall, putCall, leaveCall, callOf, stepOf, enterLine, getLine, putLine, leaveLine, answerIn, perform, FileRun, performAll}
+use Rattle.replay.specs.Replay.{enterCall, getCall, putCall, leaveCall, callOf, stepOf, enterLine, getLine, putLine, leaveLine, answerIn, performStep, FileRun, performAll}
 use Rattle.replay.specs.Replay.{answersOf, builtOf, startOf, fileRun, sizeOf, stepRecords, edgeTable, edgeCountOf, runUnless, runRecords, recordList, runFile, fileUnless}
 use Rattle.replay.proofs.Outcomes.{call-3, call-4, call-5, call-6}
 use Rattle.replay.proofs.Records.{edge-table-length}
@@ -73,7 +73,7 @@ pub events-are : (rs : List (List ℕ)) (s : State) → (performAll s rs) .event
 unfolding run alsoRan move eventsOf
 events-are [] s = refl
 events-are (r ∷ rs) s =
-    let m : Moved = perform s r in
+    let m : Moved = performStep s r in
     ap (_∷ (performAll (m .state) rs) .events) (sym (call-event r _ s)) ∙ ap (eventOf r (answerIn (m .event)) ∷_) (events-are rs (m .state))
 
 -- an answer is done with one thing only, and not refused

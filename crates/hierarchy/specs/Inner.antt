@@ -9,7 +9,7 @@ use Rattle.lists.specs.Lists.{Below}
 use Rattle.hierarchy.specs.Hierarchy.{Edge, edgesOf}
 use Rattle.hierarchy.specs.declared.Ends.{Ends}
 
--- the ends of edge e of a table
+-- the ends of edge e of a table; past its end stands 0
 abbrev pub endsAt : List ℕ → ℕ → Ends
 endsAt edges e = record { parent = getD edges (2 * e) 0; child = getD edges (2 * e + 1) 0 }
 

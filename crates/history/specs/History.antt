@@ -29,6 +29,7 @@ module _ {A : Type 0} where
   visited party [] = false
   visited party (v ∷ vs) = eqb (v .party) party || visited party vs
 
+  -- the visit with the get or put last, or as it was
   unfoldable pub withOp : Bool → Op A → Transaction A → Transaction A
   withOp true op v = record { party = v .party; ops = v .ops ++ (op ∷ []) }
   withOp false op v = v
@@ -52,6 +53,7 @@ module _ {A : Type 0} where
   noted row (left party (done parties)) = row ++ map begun parties
   noted row (left party (refused k)) = row
 
+  -- the row after a list of events, from a row on
   unfoldable pub historyFrom : List (Transaction A) → List (Event A) → List (Transaction A)
   historyFrom row [] = row
   historyFrom row (e ∷ es) = historyFrom (noted row e) es
@@ -60,8 +62,9 @@ module _ {A : Type 0} where
   unfoldable pub history : List (Event A) → List (Transaction A)
   history events = historyFrom [] events
 
--- the parties that a list of events granted, in the order of granting
+-- WHO WAS GRANTED
 module _ {A : Type 0} where
+  -- the parties that one event granted, in that order
   unfoldable pub grantedBy : Event A → List ℕ
   grantedBy (entered party (done (granted cover))) = party ∷ []
   grantedBy (entered party (done waits)) = []
@@ -71,6 +74,7 @@ module _ {A : Type 0} where
   grantedBy (left party (done parties)) = parties
   grantedBy (left party (refused k)) = []
 
+  -- those that a list of events granted, in the order of granting
   unfoldable pub grantedIn : List (Event A) → List ℕ
   grantedIn [] = []
   grantedIn (e ∷ es) = grantedBy e ++ grantedIn es
@@ -87,12 +91,14 @@ bareEvent (got party node a) = got party node (bare a)
 bareEvent (stored party node value a) = stored party node value a
 bareEvent (left party a) = left party a
 
--- COUNTING: the gets and puts in a row, and those of a list of events that were not refused
+-- COUNTING
 module _ {A : Type 0} where
+  -- the gets and puts in a row
   unfoldable pub opsIn : List (Transaction A) → ℕ
   opsIn [] = 0
   opsIn (v ∷ vs) = length (v .ops) + opsIn vs
 
+  -- one more where the event is a get or put that was not refused
   unfoldable pub counted : ℕ → Event A → ℕ
   counted m (entered party a) = m
   counted m (got party node (done a)) = suc m
@@ -101,6 +107,7 @@ module _ {A : Type 0} where
   counted m (stored party node value (refused k)) = m
   counted m (left party a) = m
 
+  -- those of a list of events
   unfoldable pub countedFrom : ℕ → List (Event A) → ℕ
   countedFrom m [] = m
   countedFrom m (e ∷ es) = countedFrom (counted m e) es
@@ -117,10 +124,12 @@ module _ {A : Type 0} where
   leaves values (didGet node note) = values
   leaves values (didPut node value) = set values node value
 
+  -- what the gets and puts of one visit find, in their order
   unfoldable pub opsFind : List ℕ → List (Op A) → List (Op ℕ)
   opsFind values [] = []
   opsFind values (op ∷ ops) = finds values op ∷ opsFind (leaves values op) ops
 
+  -- the values that they leave
   unfoldable pub opsLeave : List ℕ → List (Op A) → List ℕ
   opsLeave values [] = values
   opsLeave values (op ∷ ops) = opsLeave (leaves values op) ops

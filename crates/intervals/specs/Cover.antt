@@ -8,19 +8,19 @@ use lib.ListN.{getD}
 use Rattle.lists.specs.Lists.{least, greatest}
 use Rattle.intervals.specs.declared.Interval.{Interval}
 
--- low of a node, in a table that has low and high in turn for each node
+-- low of a node, in a table that has low and high in turn for each node. Past the table, of which document 01 says nothing, stands 0
 abbrev pub lowAt : List ℕ → ℕ → ℕ
 lowAt table node = getD table (2 * node) 0
 
--- high of a node
+-- high of a node; 0 past the table
 abbrev pub highAt : List ℕ → ℕ → ℕ
 highAt table node = getD table (2 * node + 1) 0
 
--- its interval
+-- its interval; from 0 to 0 past the table
 abbrev pub intervalAt : List ℕ → ℕ → Interval
 intervalAt table node = record { low = lowAt table node; high = highAt table node }
 
--- the call's interval runs from the least low to the greatest high of its named nodes
+-- the call's interval runs from the least low to the greatest high of its named nodes. Without a name, which enter refuses, it is from 0 to 0
 abbrev pub callInterval : List ℕ → List ℕ → Interval
 callInterval table names = record { low = least (map (lowAt table) names); high = greatest (map (highAt table) names) }
 
@@ -45,7 +45,8 @@ unfoldable pub closest : ℕ → List ℕ → Interval → ℕ
 closest zero table call = 0
 closest (suc k) table call = closerOf table call k (closest k table call)
 
--- the cover of a call that names these nodes
+-- the cover of a call that names these nodes. Where document 01 says nothing: without a name it is that of the interval from 0 to 0, which is node 0
+-- wherever each low is at least 1; a name past the table counts with the interval from 0 to 0
 abbrev pub coverOf : ℕ → List ℕ → List ℕ → ℕ
 coverOf n table names = closest n table (callInterval table names)
 

@@ -36,7 +36,7 @@ use Rattle.desk.specs.Steps.{getUnless, getStep, putUnless, putStep, afterLeavi
 use Rattle.desk.proofs.Facts.{step-facts}
 use Rattle.parties.proofs.Clauses.{clauses, sound-few}
 use Rattle.replay.proofs.Outcomes.{put-length}
-use Rattle.replay.specs.Replay.{StepAnswer, granted, refused, enterLine, getLine, putLine, leaveLine, answerIn, enterCall, getCall, putCall, leaveCall, stepOf, perform}
+use Rattle.replay.specs.Replay.{StepAnswer, granted, refused, enterLine, getLine, putLine, leaveLine, answerIn, enterCall, getCall, putCall, leaveCall, stepOf, performStep}
 use Rattle.runs.specs.Run.{lend, Call, lentTo, State, listed, afterEnter, afterGet, afterPut, afterLeave, moveCall, move}
 use Rattle.runs.proofs.Lends.{restored-full}
 use Rattle.texts.specs.Text.{decimal, space, spaced, answerText}
@@ -278,7 +278,7 @@ module _ (s : State) (r : List ℕ) (bytes : Below 256 r) (f : Fine s) where
       (record { desk = x .0; values = rw (restored-full (s .values) _ (put-length H (s .desk) (partyIn r) (nodeIn r) (valueIn r) (s .values))) (x .1) }, x .2)
   asks-fine false false false = let x = leave-bounded H (s .desk) (partyIn r) (f .desk) in (record { desk = x .0; values = f .values }, x .1)
 
-  pub perform-fine : Fine ((perform s r) .state) × Short (answerIn ((perform s r) .event))
+  pub perform-fine : Fine ((performStep s r) .state) × Short (answerIn ((performStep s r) .event))
   unfolding move
   perform-fine = asks-fine (eqb (kindOf r) 3) (eqb (kindOf r) 4) (eqb (kindOf r) 5)
 

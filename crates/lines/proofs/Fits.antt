@@ -22,7 +22,7 @@ use Rattle.desk.specs.declared.Desk.{Desk}
 use Rattle.locks.specs.Lent.{Hierarchy}
 use Rattle.runs.specs.Run.{State, Ran, alsoRan, run}
 use Rattle.replay.specs.Replay.{StepAnswer, answerIn, answersOf, eachRecord, recordList, stepRecords, sizeOf, edgeTable, edgeCountOf, builtOf}
-use Rattle.replay.specs.Replay.{startOf, perform, performAll, isHolding, holdersAt, fileRun, runUnless, runRecords, fileUnless, runFile}
+use Rattle.replay.specs.Replay.{startOf, performStep, performAll, isHolding, holdersAt, fileRun, runUnless, runRecords, fileUnless, runFile}
 use Rattle.replay.proofs.Records.{records-length, count-most}
 use Rattle.opening.proofs.Opens.{records-whole}
 use Rattle.texts.specs.Text.{decimal, space, newline, answerText, refusedWord, endWord}
@@ -46,9 +46,9 @@ unfolding run alsoRan stepLines
 steps-most [] s k h b f = (f, omega arith)
 steps-most (r ∷ rs) s k h b f =
     let one = perform-fine s r (b .0) f in
-    let more = steps-most rs ((perform s r) .state) (suc k) (omega arith) (b .1) (one .0) in
-    let line = line-most k (omega arith) (answerIn ((perform s r) .event)) (one .1) in
-    (more .0, omega (arith, length-append (stepLine k (answerIn ((perform s r) .event))) (stepLines (suc k) (answersOf (performAll ((perform s r) .state) rs))), line, more .1))
+    let more = steps-most rs ((performStep s r) .state) (suc k) (omega arith) (b .1) (one .0) in
+    let line = line-most k (omega arith) (answerIn ((performStep s r) .event)) (one .1) in
+    (more .0, omega (arith, length-append (stepLine k (answerIn ((performStep s r) .event))) (stepLines (suc k) (answersOf (performAll ((performStep s r) .state) rs))), line, more .1))
 
 -- A PART of bytes is bytes: records of a file, and its steps
 pub each-bytes : (k : ℕ) (bytes : List ℕ) → Below 256 bytes → AllBytes (eachRecord k bytes)

@@ -10,8 +10,8 @@ use lib.ListN.{length, take, drop, replicate, length-append, length-take, length
 use lib.Seq.{take-at, take-take, take-all, length-take-le, drop-drop}
 use borrow.Author.Tests.{leb-true, leb-false}
 use Rattle.lists.proofs.Loops.{keep-few}
-use Rattle.lists.specs.Lists.{keptIf, keep, Below}
-use Rattle.lists.proofs.Bools.{bool}
+use Rattle.lists.specs.Lists.{every, keptIf, keep, Below}
+use Rattle.lists.proofs.Bools.{bool, and-left, and-right}
 use Rattle.blocks.specs.Record.{kindOf}
 use Rattle.octets.specs.Writes.{overAt}
 use Rattle.block_laws.proofs.Pieces.{bytes-take}
@@ -19,7 +19,7 @@ use Rattle.desk.specs.declared.Desk.{Desk}
 use Rattle.locks.specs.Lent.{Hierarchy, lent}
 use Rattle.desk.specs.Desks.{freshDesk}
 use Rattle.runs.specs.Run.{State, Ran, alsoRan, run}
-use Rattle.replay.specs.Replay.{StepAnswer, answerIn, answersOf, perform, performAll, recordList, stepRecords, holdersAt, startOf, runFile, eachRecord}
+use Rattle.replay.specs.Replay.{StepAnswer, answerIn, answersOf, isRecord, performStep, performAll, recordList, stepRecords, holdersAt, startOf, runFile, eachRecord}
 use Rattle.replay.proofs.Records.{records-length}
 use Rattle.texts.specs.Lines.{stepLine, stepLines, endLine, listing}
 use Rattle.texts.specs.Pages.{Page, pageOf, put}
@@ -53,7 +53,7 @@ ran-append : (xs bs : List (List ℕ)) (s : State) → Joins (performAll s xs) (
 unfolding run alsoRan
 ran-append [] bs s = (refl, refl)
 ran-append (a ∷ xs) bs s =
-    let more = ran-append xs bs ((perform s a) .state) in (more .0, ap (λ (l : List StepAnswer). answerIn ((perform s a) .event) ∷ l) (more .1))
+    let more = ran-append xs bs ((performStep s a) .state) in (more .0, ap (λ (l : List StepAnswer). answerIn ((performStep s a) .event) ∷ l) (more .1))
 
 lines-append : (k : ℕ) (xs bs : List StepAnswer) → stepLines k (xs ++ bs) ≡ stepLines k xs ++ stepLines (k + length xs) bs
 unfolding stepLines
@@ -66,11 +66,16 @@ lines-append k (a ∷ xs) bs =
 answers-length : (rs : List (List ℕ)) (s : State) → length (answersOf (performAll s rs)) ≡ length rs
 unfolding run alsoRan
 answers-length [] s = refl
-answers-length (r ∷ rs) s = ap suc (answers-length rs ((perform s r) .state))
+answers-length (r ∷ rs) s = ap suc (answers-length rs ((performStep s r) .state))
 
 bytes-apart : (xs bs : List (List ℕ)) → AllBytes (xs ++ bs) → AllBytes xs × AllBytes bs
 bytes-apart [] bs f = (tt, f)
 bytes-apart (a ∷ xs) bs f = let more = bytes-apart xs bs (f .1) in ((f .0, more .0), more .1)
+
+every-apart : {A : Type 0} (p : A → Bool) (xs bs : List A) → every p (xs ++ bs) ≡ true → (every p xs ≡ true) × (every p bs ≡ true)
+unfolding every
+every-apart p [] bs e = (refl, e)
+every-apart p (a ∷ xs) bs e = let more = every-apart p xs bs (and-right (p a) _ e) in (rw (and-left (p a) _ e, more .0) refl, more .1)
 
 -- the lines of a run's steps from number k on, and its last line
 abbrev told : ℕ → Ran → List ℕ
@@ -95,7 +100,7 @@ Fitting room [] = Unit {0}
 Fitting room (part ∷ parts) = (160 * length part ≤ room) × Fitting room parts
 
 -- one part
-module _ (w : Written) (part : List (List ℕ)) (few : w .number + length part ≤ 18446744073709551615) (b : AllBytes part) (f : Fine (w .state))
+module _ (w : Written) (part : List (List ℕ)) (few : w .number + length part ≤ 18446744073709551615) (right : every isRecord part ≡ true) (b : AllBytes part) (f : Fine (w .state))
     (fits : 160 * length part ≤ length (w .page .text)) where
   abbrev after : Written
   after = recordsWritten (anew w) part
@@ -104,7 +109,7 @@ module _ (w : Written) (part : List (List ℕ)) (few : w .number + length part �
   went = performAll (w .state) (stepRecords part)
 
   comes : (after .state ≡ went .state) × (after .page ≡ put (stepLines (w .number) (answersOf went)) (pageOf (w .page .text) 0)) × (after .number ≡ w .number + length (answersOf went))
-  comes = records-ran (anew w) part few
+  comes = records-ran (anew w) part few right
 
   part-fine : Fine (went .state) × (length (stepLines (w .number) (answersOf went)) ≤ length (w .page .text))
   part-fine =
@@ -121,24 +126,26 @@ module _ (w : Written) (part : List (List ℕ)) (few : w .number + length part �
   part-number : after .number ≤ w .number + length part
   part-number = omega (arith, comes .2, answers-length (stepRecords part) (w .state), keep-few (λ (r : List ℕ). leb 3 (kindOf r)) part)
 
-pieces-told : (parts : List (List (List ℕ))) (w : Written) → w .number + length (joined parts) ≤ 18446744073709551615 → AllBytes (joined parts) → Fine (w .state)
+pieces-told : (parts : List (List (List ℕ))) (w : Written) → w .number + length (joined parts) ≤ 18446744073709551615 → every isRecord (joined parts) ≡ true → AllBytes (joined parts)
+    → Fine (w .state)
     → 160 ≤ length (w .page .text) → Fitting (length (w .page .text)) parts → inPieces w parts ≡ told (w .number) (performAll (w .state) (stepRecords (joined parts)))
 unfolding inPieces joined run stepLines keep
-pieces-told [] w few b f long fits =
+pieces-told [] w few right b f long fits =
     shown-all (endLine (holdersAt (w .state .desk)) (w .state .desk .waiting) (w .state .desk .grants)) (w .page .text) (omega (arith, desk-end-most (w .state .desk) (f .desk)))
-pieces-told (part ∷ parts) w few b f long fits =
+pieces-told (part ∷ parts) w few right b f long fits =
     let split = bytes-apart part (joined parts) b in
+    let ok = every-apart isRecord part (joined parts) right in
     let n = length-append part (joined parts) in
     let start : w .number + length part ≤ 18446744073709551615 = omega (arith, n) in
-    let one = comes w part start (split .0) f (fits .0) in
-    let fine = part-fine w part start (split .0) f (fits .0) in
-    let text = part-text w part start (split .0) f (fits .0) in
+    let one = comes w part start (ok .0) (split .0) f (fits .0) in
+    let fine = part-fine w part start (ok .0) (split .0) f (fits .0) in
+    let text = part-text w part start (ok .0) (split .0) f (fits .0) in
     let w₁ : Written = recordsWritten (anew w) part in
     let rest : List (List ℕ) = stepRecords (joined parts) in
     let went₁ : Ran = performAll (w .state) (stepRecords part) in
-    let more = pieces-told parts w₁ (omega (arith, n, part-number w part start (split .0) f (fits .0))) (split .1) (subst Fine (sym (one .0)) (fine .0)) (omega (arith, text))
+    let more = pieces-told parts w₁ (omega (arith, n, part-number w part start (ok .0) (split .0) f (fits .0))) (ok .1) (split .1) (subst Fine (sym (one .0)) (fine .0)) (omega (arith, text))
     (subst (λ (k : ℕ). Fitting k parts) (sym text) (fits .1)) in
-    ap (λ (l : List ℕ). l ++ inPieces w₁ parts) (part-shown w part start (split .0) f (fits .0))
+    ap (λ (l : List ℕ). l ++ inPieces w₁ parts) (part-shown w part start (ok .0) (split .0) f (fits .0))
     ∙ ap (λ (l : List ℕ). stepLines (w .number) (answersOf went₁) ++ l) (more ∙ ap (λ (x : State). told (w₁ .number) (performAll x rest)) (one .0)
     ∙ ap (λ (k : ℕ). told k (performAll (went₁ .state) rest)) (one .2))
     ∙ told-append (w .state) (w .number) (stepRecords part) rest
@@ -153,7 +160,8 @@ pieces-listing file n count total records edges places text parts r b e long fit
     let bytes : List ℕ = take (16 * total) records in
     let few : length (recordList bytes) ≤ 3968 = omega (arith, records-length bytes, length-take (16 * total) records, r .records-most) in
     let each : AllBytes (joined parts) = subst AllBytes (sym e) (each-bytes (length bytes / 16) bytes (bytes-take (16 * total) records b)) in
-    pieces-told parts (writtenOf H (record { desk = freshDesk; number = 1; at = 0 }) (replicate n 0) text) (omega (arith, ap length e, few)) each (start-fine H n) long fits
+    pieces-told parts (writtenOf H (record { desk = freshDesk; number = 1; at = 0 }) (replicate n 0) text) (omega (arith, ap length e, few))
+    (ap (every isRecord) e ∙ r .right) each (start-fine H n) long fits
     ∙ ap (λ (rs : List (List ℕ)). told 1 (performAll (startOf H n) (stepRecords rs))) e
     ∙ ap listing (sym (r .ran))
 

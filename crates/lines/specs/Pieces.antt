@@ -7,7 +7,7 @@ use lib.ListN.{length, take, drop}
 use Rattle.blocks.specs.Record.{kindOf}
 use Rattle.locks.specs.Lent.{Hierarchy}
 use Rattle.runs.specs.Run.{State}
-use Rattle.replay.specs.Replay.{stateOf, perform, answerIn, holdersAt, recordList}
+use Rattle.replay.specs.Replay.{stateOf, perform, holdersAt, recordList}
 use Rattle.lines.specs.declared.Progress.{Progress}
 use Rattle.texts.specs.Lines.{stepLine, endLine}
 use Rattle.texts.specs.Pages.{Page, pageOf, put}
@@ -26,16 +26,16 @@ pub record Written : Type 0 where
 abbrev pub writtenOf : Hierarchy → Progress → List ℕ → List ℕ → Written
 writtenOf H p values text = record { state = stateOf H (p .desk) values; number = p .number; page = pageOf text (p .at) }
 
--- a step is performed, and its line is put
+-- a record of another kind is performed as a step, and its line is put
 abbrev pub stepWritten : Written → List ℕ → Written
 stepWritten w r =
     record {
       state = (perform (w .state) r) .state;
       number = following (w .number);
-      page = put (stepLine (w .number) (answerIn ((perform (w .state) r) .event))) (w .page);
+      page = put (stepLine (w .number) ((perform (w .state) r) .answer)) (w .page);
     }
 
--- a record that is no step changes nothing
+-- a size or edge record, of a kind below 3, changes nothing
 abbrev pub recordWritten : Written → List ℕ → Written
 recordWritten w r = cond (leb 3 (kindOf r)) (stepWritten w r) w
 

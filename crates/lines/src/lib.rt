@@ -1,10 +1,12 @@
 // A file listed into lent bytes: its steps performed and their lines put, whole or in pieces.
 ghost use mathlib.Core.Path.{_≡_};
+ghost use mathlib.Core.Bool.{true};
 ghost use Prim.Native.Nat.{_-_, _*_, _≤_};
-ghost use lib.ListN.{length, replicate};
+ghost use lib.ListN.{length, take, replicate};
+ghost use Rattle.lists.specs.Lists.{every};
 ghost use Rattle.lists.specs.Answer.{done};
 ghost use Rattle.locks.specs.Lent.{lent};
-ghost use Rattle.replay.specs.Replay.{recordList, stepRecords, startOf, fileRun, performAll, runFile};
+ghost use Rattle.replay.specs.Replay.{recordList, isRecord, stepRecords, startOf, fileRun, performAll, runFile};
 ghost use Rattle.texts.specs.Lines.{listing};
 ghost use Rattle.opening.specs.Opening.{openedRun};
 ghost use Rattle.lines.specs.Listing.{listFile, Lists};
@@ -44,7 +46,7 @@ fn after(number: usize) -> usize
     }
 }
 
-// One record of the file: a step is performed, and its line is put.
+// One record: a size or edge record changes nothing; any other is performed, and its line is put.
 fn put_step(
     progress: Progress,
     n: usize,
@@ -132,6 +134,7 @@ fn list_built(
     values: &mut [u64],
     text: &mut [u8],
 ) -> usize
+    requires { ⌜ every isRecord (recordList (now records)) ≡ true ⌝ }
     ensures { λ r. ⌜ RunListed (performAll (startOf (lent n (now (intervals .entry)) (now (edges .entry)) «edge_count») (length (now (values .entry)))) (stepRecords (recordList (now (records .entry))))) (now (text .entry)) (now (values .exit)) (now (text .exit)) r ⌝ }
 {
     clear(values);
@@ -168,6 +171,7 @@ fn list_opened(
 ) -> usize
     requires { ⌜ (n ≤ 256) × (2 * «edge_count» ≤ 7936) × (16 * total ≤ 63488) ⌝ }
     requires { ⌜ (512 ≤ length (now places)) × (7936 ≤ length (now edges)) × (63488 ≤ length (now records)) × (256 ≤ length (now values)) ⌝ }
+    requires { ⌜ every isRecord (recordList (take (16 * total) (now records))) ≡ true ⌝ }
     ensures { λ r. ⌜ Listing (done (fileRun (openedRun n (now (places .entry)) (now (edges .entry)) «edge_count» (now (records .entry)) total))) (now (values .entry)) (now (text .entry)) (now (values .exit)) (now (text .exit)) r ⌝ }
 {
     let low = 2 * n;

@@ -56,7 +56,7 @@ namesWrong n names nameCount = not (leb 1 nameCount && leb nameCount 8) || any (
 abbrev pub lockOn : Hierarchy → Mode → ℕ → Lock
 lockOn H mode cover = record { mode = mode; cover = cover; low = lowIn H cover; high = highIn H cover }
 
--- a cover is below n and has the hold's interval, of one hold
+-- the cover of a hold, or of a waiting call, is below n and has its interval
 abbrev pub coverRight : Hierarchy → Lock → Bool
 coverRight H l = ltb (l .cover) (H .n) && eqb (lowIn H (l .cover)) (l .low) && eqb (highIn H (l .cover)) (l .high)
 

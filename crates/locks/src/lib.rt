@@ -263,8 +263,8 @@ pub fn inside_hold(intervals: &[u16], node: usize, s: Stage) -> bool
     }
 }
 
-// The mode of a number: 1 reading, any other writing.
-pub fn mode_numbered(m: u32) -> Mode
+// The mode of a number that is one: 1 reading, 2 writing.
+fn mode_numbered(m: u32) -> Mode
     ensures { λ r. ⌜ r ≡ modeNumbered m ⌝ }
 {
     if m == 1 {
@@ -374,18 +374,5 @@ pub fn mode_number(m: Mode) -> u16
     match m {
         Mode::Reading => 1,
         Mode::Writing => 2,
-    }
-}
-
-// The lock of mode, low and high.
-pub fn numbered(m: u16, low: u16, high: u16) -> Lock
-    ensures { λ r. ⌜ r ≡ lockNumbered m low high ⌝ }
-{
-    let mode = mode_numbered(m as u32);
-    Lock {
-        mode,
-        cover: 0,
-        low,
-        high,
     }
 }

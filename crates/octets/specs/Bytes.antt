@@ -6,7 +6,7 @@ use lib.Dec.{eqb}
 use lib.ListN.{getD, take, drop}
 use Rattle.lists.specs.Lists.{every}
 
--- the byte at a place; past the end stands zero
+-- the byte at a place. Past the end, of which document 01 says nothing, stands zero, and so in each number below
 abbrev pub byte : ℕ → List ℕ → ℕ
 byte at s = getD s at 0
 

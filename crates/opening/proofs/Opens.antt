@@ -3,13 +3,13 @@ use mathlib.Core.Path.{_≡_, refl, sym, ap, subst, _∙_}
 use mathlib.Core.Bool.{Bool, true, false, not, _&&_}
 use mathlib.Core.List.{List, [], _∷_, _++_}
 use mathlib.Core.Option.{Option, none, some}
-use Prim.Native.Nat.{ℕ, _*_, _/_, _≤_, _<_}
+use Prim.Native.Nat.{ℕ, zero, suc, _*_, _/_, _≤_, _<_}
 use native.Mathlib.Omega.{arith}
 use lib.Dec.{eqb, leb, ltb}
-use lib.ListN.{length, take, drop, replicate, length-replicate}
-use lib.Seq.{take-all, take-at}
-use borrow.Author.Tests.{lt-leb, le-ltb}
-use Rattle.lists.specs.Lists.{over}
+use lib.ListN.{length, take, drop, replicate, length-drop, length-replicate}
+use lib.Seq.{length-take-le, take-all, take-at}
+use borrow.Author.Tests.{eq-eqb, lt-leb, le-ltb}
+use Rattle.lists.specs.Lists.{every, over}
 use Rattle.lists.specs.Answer.{Answer, done, refused, Check, _when_, refusal, answerOf, roomAfter}
 use Rattle.hierarchy.specs.Hierarchy.{edgesOf, sizeWrong, hierarchyChecks}
 use Rattle.intervals.specs.Intervals.{intervalTable}
@@ -23,10 +23,11 @@ use Rattle.interval_laws.proofs.Laws.{built-length}
 use Rattle.blocks.specs.declared.ReadAnswer.{ReadAnswer}
 use Rattle.blocks.specs.declared.ReadAnswer.the-variants.{Records, Refused as ReadRefused}
 use Rattle.blocks.specs.Record.{kindOf}
+use Rattle.blocks.specs.Block.{afterRecord, afterRecords}
 use Rattle.blocks.specs.File.{wholeBlocks, notBlocks, fileChecks, fileRecords, readRefusal, readFile, readMeaning}
 use Rattle.blocks.proofs.Answers.{blocks-facts}
 use Rattle.locks.specs.Lent.{Hierarchy, lent}
-use Rattle.replay.specs.Replay.{FileRun, recordList, sizeOf, edgeTable, edgeCountOf, stepRecords, builtOf, startOf, fileRun, performAll, runUnless, runRecords, fileUnless, runFile}
+use Rattle.replay.specs.Replay.{FileRun, eachRecord, recordList, isRecord, sizeOf, edgeTable, edgeCountOf, stepRecords, builtOf, startOf, fileRun, performAll, runUnless, runRecords, fileUnless, runFile}
 use Rattle.replay.specs.declared.EdgesAnswer.{EdgesAnswer}
 use Rattle.replay.specs.declared.EdgesAnswer.the-variants.{Edges, Refused as EdgesRefused}
 use Rattle.replay.specs.Answers.{edgesRefusal, edgesInto, edgesMeaning, EdgesInto}
@@ -35,7 +36,7 @@ use Rattle.opening.specs.declared.OpenAnswer.{OpenAnswer}
 use Rattle.opening.specs.declared.OpenAnswer.the-variants.{Opened, Refused}
 use Rattle.opening.specs.Opening.{fileRows, builtChecks, openShort, openRefusal, Opening, openingOf, openingIn, openFile, openMeaning, Opens, openedRun}
 use Rattle.opening.specs.Inner.{HierarchyOpened, RecordsOpened, readingRefusal, buildingRefusal, FileOpened}
-use Rattle.block_laws.proofs.Laws.{read-whole}
+use Rattle.block_laws.proofs.Laws.{read-whole, read-stage, record-right}
 
 -- an accepted file has whole records, at most 3,968
 pub records-whole : (file : List ℕ) → refusal (fileChecks file) ≡ none → (length (fileRecords file) ≡ 16 * (length (fileRecords file) / 16)) × (length (fileRecords file) / 16 ≤ 3968)
@@ -46,6 +47,24 @@ records-whole file e =
     let read = refused-later (1 when ltb (length room) (496 * wholeBlocks file)) (fileChecks file) (le-ltb (length room) (496 * wholeBlocks file) (omega (arith, long))) ∙ e in
     let whole = read-whole file room (length (fileRecords file) / 16) (ap (λ (o : Option ℕ). answerOf o (length (fileRecords file) / 16)) read) in
     (whole .0, whole .1)
+
+-- and each of them is right
+rows-right : (k stage : ℕ) (s : List ℕ) → 16 * k ≤ length s → afterRecords stage k s ≤ 2 → every isRecord (eachRecord k s) ≡ true
+unfolding eachRecord every
+rows-right zero stage s l h = refl
+rows-right (suc k) stage s l h =
+    let first = record-right k stage s h in
+    let long : length (take 16 s) ≡ 16 = length-take-le 16 s (omega arith) in
+    rw (eq-eqb (length (take 16 s)) 16 long, first .0, rows-right k (afterRecord stage (take 16 s)) (drop 16 s) (omega (arith, length-drop 16 s)) (first .1)) refl
+
+records-right : (file : List ℕ) → refusal (fileChecks file) ≡ none → every isRecord (fileRows file) ≡ true
+unfolding readFile
+records-right file e =
+    let room : List ℕ = replicate (496 * wholeBlocks file) 0 in
+    let long = length-replicate {A = ℕ} (496 * wholeBlocks file) 0 in
+    let read = refused-later (1 when ltb (length room) (496 * wholeBlocks file)) (fileChecks file) (le-ltb (length room) (496 * wholeBlocks file) (omega (arith, long))) ∙ e in
+    let n : ℕ = length (fileRecords file) / 16 in
+    rows-right n 0 (fileRecords file) (omega arith) (read-stage file room n (ap (λ (o : Option ℕ). answerOf o n) read))
 
 -- ANSWERS: one that is a refusal comes from one
 refused-by : {A : Type 0} (o : Option ℕ) (a : A) {k : ℕ} → answerOf o a ≡ refused k → o ≡ some k
@@ -324,12 +343,13 @@ module _ (file records edges places : List ℕ) where
               places-after = o .places-after ∙ ap (λ (x : Option ℕ). roomAfter x (intervalTable (sizeOf (fileRows file)) (edgeTable (fileRows file))) places) (sym whole);
             }
 
--- WHAT AN OPENED FILE IS: its run is the run over what stands in the places, and each part is within them
+-- WHAT AN OPENED FILE IS: its run is the run over what stands in the places, each part is within them, and its records are right
 pub record Ready (file : List ℕ) (n count total : ℕ) (records edges places : List ℕ) : Type 0 where
   pub ran : runFile file ≡ done (fileRun (openedRun n places edges count records total))
   pub n-most : n ≤ 256
   pub edges-most : 2 * count ≤ 7936
   pub records-most : 16 * total ≤ 63488
+  pub right : every isRecord (recordList (take (16 * total) records)) ≡ true
 
 module _ (file records edges places : List ℕ) (a : OpenAnswer) {records′ edges′ places′ : List ℕ} (long₁ : 63488 ≤ length records) (long₂ : 7936 ≤ length edges) (long₃ : 512 ≤ length places)
     (e : Opens a records′ edges′ places′ (openFile file records edges places)) where
@@ -408,4 +428,5 @@ module _ (file records edges places : List ℕ) (a : OpenAnswer) {records′ edg
           n-most = omega (arith, size .1, size-is);
           edges-most = few-edges file a judge n count total t;
           records-most = few-records file a judge n count total t;
+          right = ap (λ (l : List ℕ). every isRecord (recordList l)) records-front ∙ records-right file (file-right file a judge n count total t);
         }

@@ -15,7 +15,7 @@ use Rattle.parties.specs.declared.Entry.{Entry}
 abbrev pub entryOf : Stage → Entry
 entryOf stage = record { stage = stage }
 
--- the stage of a party in the entries; parties are 0 to 31
+-- the stage of a party in the entries; parties are 0 to 31, and any other is out
 abbrev pub stageIn : List Entry → ℕ → Stage
 stageIn entries party = (getD entries party (entryOf Out)) .stage
 
@@ -23,7 +23,7 @@ stageIn entries party = (getD entries party (entryOf Out)) .stage
 abbrev pub placeOf : ℕ → ℕ
 placeOf party = cond (ltb party 32) party 0
 
--- the stage of a party by what stands at its place
+-- the stage of a party by what stands at its place; a party over 31 is out
 abbrev pub seatedAt : ℕ → Stage → Stage
 seatedAt party stage = cond (ltb party 32) stage Out
 

@@ -5,6 +5,7 @@ ghost use Prim.Native.Nat.{_≤_, _<_};
 ghost use lib.ListN.{length};
 ghost use Rattle.lists.specs.Lists.{anyBelow};
 ghost use Rattle.locks.specs.declared.Lock as L;
+ghost use Rattle.locks.specs.Locks.{modeNumbered, lockNumbered};
 ghost use Rattle.locks.specs.Stages.{isWaiting};
 ghost use Rattle.locks.specs.Lent.{spanned, intervalWrong};
 ghost use Rattle.parties.specs.Parties.{stageIn, meetsHolder, isFree, placeOf, seatedAt};
@@ -13,6 +14,7 @@ ghost use Rattle.parties.specs.Inner.{rowOf, putRow, meetsRow, rowsApart
 use arrivals::Listed;
 use arrivals::PARTIES;
 use locks::Lock;
+use locks::Mode;
 use locks::Stage;
 
 // Numbers of 32 locks, three for each.
@@ -99,6 +101,29 @@ fn listed_if_waiting(queue: &[u8], waiting: usize, party: usize, s: Stage) -> bo
     arrivals::is_listed(queue, waiting, party)
 }
 
+// The mode of a row: 1 reading, 2 writing.
+fn row_mode(m: u16) -> Mode
+    ensures { λ r. ⌜ r ≡ modeNumbered m ⌝ }
+{
+    if m == 1 {
+        return Mode::Reading;
+    }
+    Mode::Writing
+}
+
+// The lock of a row's numbers.
+fn row_lock(m: u16, low: u16, high: u16) -> Lock
+    ensures { λ r. ⌜ r ≡ lockNumbered m low high ⌝ }
+{
+    let mode = row_mode(m);
+    Lock {
+        mode,
+        cover: 0,
+        low,
+        high,
+    }
+}
+
 // The lock of a row.
 fn row(rows: &[u16; ROWS], k: usize) -> Lock
     requires { ⌜ k < 32 ⌝ }
@@ -107,7 +132,7 @@ fn row(rows: &[u16; ROWS], k: usize) -> Lock
     let m = rows[3 * k];
     let low = rows[3 * k + 1];
     let high = rows[3 * k + 2];
-    locks::numbered(m, low, high)
+    row_lock(m, low, high)
 }
 
 // Puts a lock into a row.

@@ -1,7 +1,7 @@
 -- From what a step of the desk hands back to what the step of a file does. Assumes nothing.
 use mathlib.Core.Path.{_≡_, refl, sym, ap, subst, _∙_}
 use mathlib.Core.List.{List}
-use mathlib.Core.Bool.{true, false}
+use mathlib.Core.Bool.{Bool, true, false}
 use mathlib.Core.Option.{Option, none, some}
 use Prim.Native.Nat.{ℕ}
 use lib.Dec.{eqb}
@@ -26,9 +26,10 @@ use Rattle.runs.proofs.Lends.{restored-full}
 use Rattle.runs.proofs.Exact.{call-exact}
 use Rattle.runs.proofs.Runs.{move-hierarchy}
 use Rattle.replay.specs.declared.Outcome.{Outcome}
+use Rattle.replay.specs.declared.Outcome.the-variants.{Refused}
 use Rattle.replay.specs.declared.Step.{Step}
 use Rattle.replay.specs.Replay.{enterCall, getCall, putCall, leaveCall, callOf, stepOf, StepAnswer, granted, waits, value}
-use Rattle.replay.specs.Replay.{stored, left, refused, enterLine, getLine, putLine, leaveLine, answerIn, stateOf, perform}
+use Rattle.replay.specs.Replay.{stored, left, refused, enterLine, getLine, putLine, leaveLine, answerIn, stateOf, isStep, performStep, performed, performIf, perform}
 use Rattle.replay.specs.Answers.{stepMeaning, outcomeOf, partiesOf, Performs}
 use Rattle.replay.specs.Inner.{leftOutcome, PerformsCall, PerformsAny}
 
@@ -44,7 +45,7 @@ form-means (refused k) = refl
 
 -- so that form is enough
 performs : (r : Step) (values : List ℕ) (m : Moved) → r .desk ≡ m .state .desk → values ≡ m .state .values
-    → r .outcome ≡ outcomeOf (answerIn (m .event)) → r .parties ≡ partiesOf (answerIn (m .event)) → Performs r values m
+    → r .outcome ≡ outcomeOf (answerIn (m .event)) → r .parties ≡ partiesOf (answerIn (m .event)) → Performs r values (performed m)
 performs r values m d v o t =
     let a : StepAnswer = answerIn (m .event) in
     record {
@@ -105,8 +106,8 @@ module _ (H : Hierarchy) (d : Desk) (bytes : List ℕ) (party : ℕ) (at-party :
   entered-performs mode names named em en ec r o e eo values =
       let x : EnterResult = enterStep H d party mode names named in
       let same : x ≡ enterStep H d (partyIn bytes) (modeNumbered (modeIn bytes)) (namesIn bytes) (nameCountIn bytes) = rw (at-party, em, en, ec) refl in
-      subst (λ (y : EnterResult). Performs (plain (r .desk) o) values (afterEnter (partyIn bytes) (stateOf H d values) y)) same
-      (performs _ values _ (e .0) refl (eo ∙ ap (λ (a : Answer Admission). outcomeOf (enterLine a)) (e .1)) (sym (enter-none (x .answer))))
+      subst (λ (y : EnterResult). Performs (plain (r .desk) o) values (performed (afterEnter (partyIn bytes) (stateOf H d values) y))) same
+      (performs _ values (afterEnter (partyIn bytes) (stateOf H d values) x) (e .0) refl (eo ∙ ap (λ (a : Answer Admission). outcomeOf (enterLine a)) (e .1)) (sym (enter-none (x .answer))))
 
   pub got-performs : (node : ℕ) → node ≡ nodeIn bytes → (values : List ℕ) (r : GetStep) (o : Outcome) → Gets r (getStep H d party node values)
       → o ≡ outcomeOf (getLine (getMeaning (r .answer))) → PerformsCall (plain (r .desk) o) H d (getCall bytes) values values
@@ -114,8 +115,8 @@ module _ (H : Hierarchy) (d : Desk) (bytes : List ℕ) (party : ℕ) (at-party :
   got-performs node en values r o e eo =
       let x : GetResult = getStep H d party node values in
       let same : x ≡ getStep H d (partyIn bytes) (nodeIn bytes) values = rw (at-party, en) refl in
-      subst (λ (y : GetResult). Performs (plain (r .desk) o) values (afterGet (partyIn bytes) (nodeIn bytes) (stateOf H d values) y)) same
-      (performs _ values _ (e .0) refl (eo ∙ ap (λ (a : Answer ℕ). outcomeOf (getLine a)) (e .1)) (sym (get-none (x .answer))))
+      subst (λ (y : GetResult). Performs (plain (r .desk) o) values (performed (afterGet (partyIn bytes) (nodeIn bytes) (stateOf H d values) y))) same
+      (performs _ values (afterGet (partyIn bytes) (nodeIn bytes) (stateOf H d values) x) (e .0) refl (eo ∙ ap (λ (a : Answer ℕ). outcomeOf (getLine a)) (e .1)) (sym (get-none (x .answer))))
 
   pub stored-performs : (node number : ℕ) → node ≡ nodeIn bytes → number ≡ valueIn bytes → (values values′ : List ℕ) (r : PutStep) (o : Outcome)
       → Puts r values′ (putStep H d party node number values) → o ≡ outcomeOf (putLine (putMeaning (r .answer)))
@@ -124,8 +125,8 @@ module _ (H : Hierarchy) (d : Desk) (bytes : List ℕ) (party : ℕ) (at-party :
   stored-performs node number en ev values values′ r o e eo =
       let x : PutResult = putStep H d party node number values in
       let same : x ≡ putStep H d (partyIn bytes) (nodeIn bytes) (valueIn bytes) values = rw (at-party, en, ev) refl in
-      subst (λ (y : PutResult). Performs (plain (r .desk) o) values′ (afterPut (partyIn bytes) (nodeIn bytes) (valueIn bytes) (stateOf H d values) y)) same
-      (performs _ values′ _ (e .0) (e .2 ∙ sym (restored-full values (x .values) (put-length H d party node number values)))
+      subst (λ (y : PutResult). Performs (plain (r .desk) o) values′ (performed (afterPut (partyIn bytes) (nodeIn bytes) (valueIn bytes) (stateOf H d values) y))) same
+      (performs _ values′ (afterPut (partyIn bytes) (nodeIn bytes) (valueIn bytes) (stateOf H d values) x) (e .0) (e .2 ∙ sym (restored-full values (x .values) (put-length H d party node number values)))
       (eo ∙ ap (λ (a : Answer (Unit {0})). outcomeOf (putLine a)) (e .1)) (sym (put-none (x .answer))))
 
   pub left-performs : (r : LeaveStep) (list : List ℕ) (o : Outcome) → Leaves r list (leaveStep H d party (replicate 32 0)) → o ≡ leftOutcome (leaveMeaning (r .answer))
@@ -134,7 +135,7 @@ module _ (H : Hierarchy) (d : Desk) (bytes : List ℕ) (party : ℕ) (at-party :
   left-performs r list o e eo values =
       let form = leave-line d party (leaveRefusal H d party (replicate 32 0)) in
       subst (λ (p : ℕ). PerformsCall (record { desk = r .desk; outcome = o; parties = list }) H d (leave p (replicate 32 0)) values values) at-party
-      (performs _ values _ (e .0) refl (eo ∙ ap leftOutcome (e .1) ∙ form .0) (e .2 ∙ form .1))
+      (performs _ values (moveCall H (leave party (replicate 32 0)) (stateOf H d values)) (e .0) refl (eo ∙ ap leftOutcome (e .1) ∙ form .0) (e .2 ∙ form .1))
 
 -- ONE STEP RECORD, by its kind
 module _ (r : List ℕ) where
@@ -152,13 +153,28 @@ module _ (r : List ℕ) where
     call-6 g = rw (e, f, g) refl
 
   -- performing it is its call on the tables themselves
-  pub performs-call : (s : State) (c : Call) → callOf r ≡ c → moveCall (s .hierarchy) c s ≡ perform s r
+  pub performs-call : (s : State) (c : Call) → callOf r ≡ c → performed (moveCall (s .hierarchy) c s) ≡ performed (performStep s r)
   unfolding move lentTo lend
-  performs-call s c e = ap (λ (x : Call). moveCall (s .hierarchy) x s) (sym e) ∙ sym (call-exact (s .hierarchy) (callOf r) s)
+  performs-call s c e = ap (λ (x : Call). performed (moveCall (s .hierarchy) x s)) (sym e) ∙ sym (ap performed (call-exact (s .hierarchy) (callOf r) s))
+
+-- ANY BYTES. What is no step is refused with 4
+pub performs-none : (H : Hierarchy) (d : Desk) (values bytes : List ℕ) → isStep bytes ≡ false
+    → Performs (record { desk = d; outcome = Refused 4; parties = replicate 32 0 }) values (perform (stateOf H d values) bytes)
+performs-none H d values bytes e =
+    subst (λ (b : Bool). Performs (record { desk = d; outcome = Refused 4; parties = replicate 32 0 }) values (performIf b (stateOf H d values) bytes)) (sym e)
+    (record { desk = refl; values-after = refl; meaning = refl; outcome = refl; parties = refl })
+
+-- a step is performed
+pub performs-some : (s : State) (bytes values′ : List ℕ) (r : Step) → isStep bytes ≡ true → Performs r values′ (performed (performStep s bytes)) → Performs r values′ (perform s bytes)
+performs-some s bytes values′ r e f = subst (λ (b : Bool). Performs r values′ (performIf b s bytes)) (sym e) f
 
 -- what `perform` promises of the desk and the values, as one state: the hierarchy stays
 pub performs-state : (H : Hierarchy) (d : Desk) (values bytes values′ : List ℕ) (r : Step) → Performs r values′ (perform (stateOf H d values) bytes)
     → stateOf H (r .desk) values′ ≡ (perform (stateOf H d values) bytes) .state
-performs-state H d values bytes values′ r f =
-    let after : State = (perform (stateOf H d values) bytes) .state in
-    rw (f .desk, f .values-after) (ap (λ (K : Hierarchy). stateOf K (after .desk) (after .values)) (sym (move-hierarchy (stepOf bytes) (stateOf H d values))))
+performs-state H d values bytes values′ r = by (isStep bytes)
+  where
+    by : (b : Bool) → Performs r values′ (performIf b (stateOf H d values) bytes) → stateOf H (r .desk) values′ ≡ (performIf b (stateOf H d values) bytes) .state
+    by true f =
+        let after : State = (performStep (stateOf H d values) bytes) .state in
+        rw (f .desk, f .values-after) (ap (λ (K : Hierarchy). stateOf K (after .desk) (after .values)) (sym (move-hierarchy (stepOf bytes) (stateOf H d values))))
+    by false f = rw (f .desk, f .values-after) refl

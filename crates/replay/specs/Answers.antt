@@ -7,13 +7,12 @@ use lib.Dec.{ltb}
 use lib.ListN.{length, take, replicate}
 use Rattle.lists.specs.Lists.{over}
 use Rattle.lists.specs.Answer.{Answer, done, refused as denied, _when_, refusal, answerOf, roomAfter}
-use Rattle.runs.specs.Run.{Moved}
 use Rattle.replay.specs.declared.EdgesAnswer.{EdgesAnswer}
 use Rattle.replay.specs.declared.EdgesAnswer.the-variants.{Edges, Refused as EdgesRefused}
 use Rattle.replay.specs.declared.Outcome.{Outcome}
 use Rattle.replay.specs.declared.Outcome.the-variants.{Granted, Waits, Value, Stored, Left, Refused}
 use Rattle.replay.specs.declared.Step.{Step}
-use Rattle.replay.specs.Replay.{StepAnswer, granted, waits, value, stored, left, refused, answerIn, edgeTable, edgeCountOf}
+use Rattle.replay.specs.Replay.{StepAnswer, granted, waits, value, stored, left, refused, Performed, edgeTable, edgeCountOf}
 
 -- THE EDGE TABLE into lent places. It needs two for each edge
 abbrev pub edgesRefusal : List (List ℕ) → List ℕ → Option ℕ
@@ -66,9 +65,9 @@ partiesOf (left parties) = over parties (replicate 32 0)
 partiesOf (refused k) = replicate 32 0
 
 -- what `perform` promises: desk and values of the definition, an answer that means the definition's, and its one form
-pub record Performs (r : Step) (values : List ℕ) (m : Moved) : Type 0 where
+pub record Performs (r : Step) (values : List ℕ) (m : Performed) : Type 0 where
   pub desk : r .desk ≡ m .state .desk
   pub values-after : values ≡ m .state .values
-  pub meaning : stepMeaning (r .outcome) (r .parties) ≡ answerIn (m .event)
-  pub outcome : r .outcome ≡ outcomeOf (answerIn (m .event))
-  pub parties : r .parties ≡ partiesOf (answerIn (m .event))
+  pub meaning : stepMeaning (r .outcome) (r .parties) ≡ m .answer
+  pub outcome : r .outcome ≡ outcomeOf (m .answer)
+  pub parties : r .parties ≡ partiesOf (m .answer)

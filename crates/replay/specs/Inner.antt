@@ -11,7 +11,7 @@ use Rattle.runs.specs.Run.{Call, moveCall}
 use Rattle.replay.specs.declared.Outcome.{Outcome}
 use Rattle.replay.specs.declared.Outcome.the-variants.{Left, Refused}
 use Rattle.replay.specs.declared.Step.{Step}
-use Rattle.replay.specs.Replay.{edgeIf, stateOf}
+use Rattle.replay.specs.Replay.{edgeIf, stateOf, performed}
 use Rattle.replay.specs.Answers.{Performs}
 
 -- the record at a place, of records one behind the other
@@ -29,7 +29,7 @@ leftOutcome (denied k) = Refused k
 
 -- a call performed, on a desk and the tables themselves
 abbrev pub PerformsCall : Step → Hierarchy → Desk → Call → (values values′ : List ℕ) → Type 0
-PerformsCall r H d c values values′ = Performs r values′ (moveCall H c (stateOf H d values))
+PerformsCall r H d c values values′ = Performs r values′ (performed (moveCall H c (stateOf H d values)))
 
 -- a call that has nothing to do with the values leaves them, whatever they are
 abbrev pub PerformsAny : Step → Hierarchy → Desk → Call → Type 0

@@ -1,6 +1,6 @@
 -- Running a file: its records as a hierarchy and steps, what each step answers, and the end. Assumes nothing.
 use mathlib.Core.List.{List, [], _∷_, map}
-use mathlib.Core.Bool.{Bool, true, false, cond}
+use mathlib.Core.Bool.{Bool, true, false, cond, _&&_}
 use mathlib.Core.Option.{Option, none, some}
 use Prim.Native.Nat.{ℕ, zero, suc, _/_}
 use lib.Dec.{eqb, leb}
@@ -9,7 +9,7 @@ use Rattle.lists.specs.Lists.{keep, count}
 use Rattle.lists.specs.Answer.{Answer, done, refused as denied, refusal}
 use Rattle.hierarchy.specs.Hierarchy.{hierarchyChecks}
 use Rattle.intervals.specs.Intervals.{intervalTable}
-use Rattle.blocks.specs.Record.{kindOf, sizeIn, parentIn, childIn, partyIn, modeIn, nameCountIn, namesIn, nodeIn, valueIn}
+use Rattle.blocks.specs.Record.{kindOf, sizeIn, parentIn, childIn, partyIn, modeIn, nameCountIn, namesIn, nodeIn, valueIn, recordRight}
 use Rattle.blocks.specs.File.{fileChecks, fileRecords}
 use Rattle.locks.specs.declared.Stage.{Stage}
 use Rattle.locks.specs.declared.Stage.the-variants.{Out, Waiting, Holding}
@@ -28,7 +28,7 @@ eachRecord (suc k) bytes = take 16 bytes ∷ eachRecord k (drop 16 bytes)
 abbrev pub recordList : List ℕ → List (List ℕ)
 recordList bytes = eachRecord (length bytes / 16) bytes
 
--- THE HIERARCHY of a file. n, from the size record, which comes first
+-- THE HIERARCHY of a file. n, from the size record, which comes first; 0 where there is no record
 abbrev pub sizeOf : List (List ℕ) → ℕ
 sizeOf [] = 0
 sizeOf (r ∷ rs) = sizeIn r
@@ -55,7 +55,7 @@ stepRecords rs = keep (λ r. leb 3 (kindOf r)) rs
 abbrev pub builtOf : List (List ℕ) → Hierarchy
 builtOf rs = lent (sizeOf rs) (intervalTable (sizeOf rs) (edgeTable rs)) (edgeTable rs) (edgeCountOf rs)
 
--- A STEP. What an enter record calls for
+-- A STEP, of a record that is one and is right. What an enter record calls for
 abbrev pub enterCall : List ℕ → Call
 enterCall r = enter (partyIn r) (modeNumbered (modeIn r)) (namesIn r) (nameCountIn r)
 
@@ -71,7 +71,7 @@ putCall r = put (partyIn r) (nodeIn r) (valueIn r) whole
 abbrev pub leaveCall : List ℕ → Call
 leaveCall r = leave (partyIn r) (replicate 32 0)
 
--- a step record, by its kind: 3 enter, 4 get, 5 put, 6 leave
+-- by its kind: 3 enter, 4 get, 5 put, 6 leave
 abbrev pub callOf : List ℕ → Call
 callOf r = cond (eqb (kindOf r) 3) (enterCall r) (cond (eqb (kindOf r) 4) (getCall r) (cond (eqb (kindOf r) 5) (putCall r) (leaveCall r)))
 
@@ -120,9 +120,35 @@ answerIn (gone party a) = leaveLine a
 abbrev pub stateOf : Hierarchy → Desk → List ℕ → State
 stateOf H desk values = record { hierarchy = H; desk = desk; values = values }
 
--- one step record performed
-abbrev pub perform : State → List ℕ → Moved
-perform s r = move (stepOf r) s
+-- a record of 16 bytes that is right by its kind
+abbrev pub isRecord : List ℕ → Bool
+isRecord r = eqb (length r) 16 && recordRight r
+
+-- and a step
+abbrev pub isStep : List ℕ → Bool
+isStep r = isRecord r && leb 3 (kindOf r)
+
+-- a step record performed
+abbrev pub performStep : State → List ℕ → Moved
+performStep s r = move (stepOf r) s
+
+-- what performing a record comes to: the hierarchy, the desk and the values after it, and its answer
+pub record Performed : Type 0 where
+  pub state : State
+  pub answer : StepAnswer
+
+-- of a step
+abbrev pub performed : Moved → Performed
+performed m = record { state = m .state; answer = answerIn (m .event) }
+
+-- a refusal changes nothing
+abbrev pub performIf : Bool → State → List ℕ → Performed
+performIf true s r = performed (performStep s r)
+performIf false s r = record { state = s; answer = refused 4 }
+
+-- any bytes performed as a record: 4 where they are no record of 16 bytes, one that is not right, or no step
+abbrev pub perform : State → List ℕ → Performed
+perform s r = performIf (isStep r) s r
 
 -- A WHOLE FILE. The step records one after the other
 abbrev pub performAll : State → List (List ℕ) → Ran

@@ -6,9 +6,10 @@ ghost use lib.Dec.{eqb};
 ghost use Rattle.lists.specs.Lists.{over, one};
 ghost use Rattle.octets.specs.Writes.{overAt};
 ghost use Rattle.blocks.specs.Record.{kindOf, namesIn};
+ghost use Rattle.locks.specs.Locks.{modeNumbered};
 ghost use Rattle.locks.specs.Lent.{lent};
 ghost use Rattle.desk.specs.Answers.{enterMeaning, getMeaning, putMeaning, leaveMeaning};
-ghost use Rattle.replay.specs.Replay.{recordList, sizeOf, edgeTable, edgeCountOf, enterLine, getLine, putLine, enterCall, getCall, putCall, leaveCall, stateOf, perform as performing};
+ghost use Rattle.replay.specs.Replay.{recordList, sizeOf, edgeTable, edgeCountOf, enterLine, getLine, putLine, enterCall, getCall, putCall, leaveCall, stateOf, isStep, performStep, performed, perform as performing};
 ghost use Rattle.replay.specs.Answers.{EdgesInto, edgesInto, outcomeOf, Performs};
 ghost use Rattle.replay.specs.Inner.{recordAt, edgeOf, leftOutcome, PerformsCall, PerformsAny};
 use arrivals::PARTIES;
@@ -18,6 +19,7 @@ use desk::EnterAnswer;
 use desk::GetAnswer;
 use desk::LeaveAnswer;
 use desk::PutAnswer;
+use locks::Mode;
 
 // What a step of a file answers, one value for the four kinds. `Left` counts the granted parties, which stand first in `Step::parties`.
 pub enum Outcome {
@@ -151,6 +153,16 @@ fn put_names(bytes: &[u8], names: &mut [u16]) -> usize
     count
 }
 
+// The mode of a number that is one: 1 reading, 2 writing.
+fn mode_numbered(m: u32) -> Mode
+    ensures { λ r. ⌜ r ≡ modeNumbered m ⌝ }
+{
+    if m == 1 {
+        return Mode::Reading;
+    }
+    Mode::Writing
+}
+
 // What enter answered, as an outcome.
 fn entered(a: EnterAnswer) -> Outcome
     ensures { λ r. ⌜ r ≡ outcomeOf (enterLine (enterMeaning a)) ⌝ }
@@ -205,7 +217,7 @@ fn perform_enter(
     ensures { λ r. ⌜ PerformsAny r (lent n (now (intervals .entry)) (now (edges .entry)) «edge_count») desk (enterCall (now (bytes .entry))) ⌝ }
 {
     let party = octets::byte(bytes, 1) as usize;
-    let mode = locks::mode_numbered(octets::byte(bytes, 2) as u32);
+    let mode = mode_numbered(octets::byte(bytes, 2) as u32);
     let name_count = octets::byte(bytes, 3) as usize;
     let mut names = [0u16; 255];
     let k = put_names(bytes, &mut names);
@@ -311,8 +323,8 @@ fn perform_leave(
     }
 }
 
-// One step record performed on the desk, by its kind: 3 enter, 4 get, 5 put, 6 leave.
-pub fn perform(
+// A step record performed on the desk, by its kind: 3 enter, 4 get, 5 put, 6 leave.
+fn perform_step(
     desk: Desk,
     n: usize,
     intervals: &[u16],
@@ -321,7 +333,7 @@ pub fn perform(
     bytes: &[u8],
     values: &mut [u64],
 ) -> Step
-    ensures { λ r. ⌜ Performs r (now (values .exit)) (performing (stateOf (lent n (now (intervals .entry)) (now (edges .entry)) «edge_count») desk (now (values .entry))) (now (bytes .entry))) ⌝ }
+    ensures { λ r. ⌜ Performs r (now (values .exit)) (performed (performStep (stateOf (lent n (now (intervals .entry)) (now (edges .entry)) «edge_count») desk (now (values .entry))) (now (bytes .entry)))) ⌝ }
 {
     let kind = octets::byte(bytes, 0);
     if kind == 3 {
@@ -334,4 +346,39 @@ pub fn perform(
         return perform_put(desk, n, intervals, edges, edge_count, bytes, values);
     }
     perform_leave(desk, n, intervals, edges, edge_count, bytes)
+}
+
+// Whether bytes are a record of 16 bytes that is right, and a step.
+fn is_step(bytes: &[u8]) -> bool
+    ensures { λ r. ⌜ r ≡ isStep (now (bytes .entry)) ⌝ }
+{
+    if bytes.len() != RECORD {
+        return false;
+    }
+    if !blocks::record_right(bytes) {
+        return false;
+    }
+    3 <= octets::byte(bytes, 0)
+}
+
+// Any bytes performed on the desk as a record of a file: refused with 4 where they are no step, or one that is not right.
+pub fn perform(
+    desk: Desk,
+    n: usize,
+    intervals: &[u16],
+    edges: &[u16],
+    edge_count: usize,
+    bytes: &[u8],
+    values: &mut [u64],
+) -> Step
+    ensures { λ r. ⌜ Performs r (now (values .exit)) (performing (stateOf (lent n (now (intervals .entry)) (now (edges .entry)) «edge_count») desk (now (values .entry))) (now (bytes .entry))) ⌝ }
+{
+    if !is_step(bytes) {
+        return Step {
+            desk,
+            outcome: Outcome::Refused(4),
+            parties: [0u8; PARTIES],
+        };
+    }
+    perform_step(desk, n, intervals, edges, edge_count, bytes, values)
 }

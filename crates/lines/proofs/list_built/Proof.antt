@@ -47,6 +47,7 @@ returns c =
       c .before .before .before .before .before .before .before .before .before .before .before .before .before .before .before .before .before .before .before .before
           .before .before .good .1 .1 .1 .1 .0 .0,
     ))
+    (c .before .before .before .before .before .before .before .before .before .before .before .before .before .before .before .before .before .before .before .before .before .before .pre)
     (ap (λ (d : Desk). record { desk = d; number = 1; at = 0 }) (c .before .before .before .before .before .before .before .before .before .before .before .before .fresh .ensures))
     (s .ensures ∙ ap (λ (v : List ℕ). recordsWritten (writtenOf H start v (z .text .now)) rs)
     (c .before .before .before .before .before .before .before .before .before .before .before .before .before .before .before .clear .ensures)) (c .before .before .put-end .ensures)

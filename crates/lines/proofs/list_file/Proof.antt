@@ -54,7 +54,7 @@ list-opened-requires c κs =
     let e = s .before .before .before in
     let values = e .before .before .before .before .before .before .before .before .before .before .pre in (
       (r .n-most, r .edges-most, r .records-most),
-      (omega (arith, e .places2 .given), omega (arith, e .before .edges2 .given), omega (arith, e .before .before .records2 .given), values),
+      ((omega (arith, e .places2 .given), omega (arith, e .before .edges2 .given), omega (arith, e .before .before .records2 .given), values), r .right),
     )
 
 same-length : tie.Need-same-length

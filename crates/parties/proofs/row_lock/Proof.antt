@@ -1,0 +1,15 @@
+-- `row_lock` meets its contract: the mode is that of the number. Assumes nothing.
+use mathlib.Core.Path.{refl}
+use borrow.Author.Needs.{needs}
+use Rattle.parties.proofs.row_lock.Statement.{statement}
+use Rattle.parties.proofs.row_lock.Tie as tie
+
+returns : tie.Need-returns
+returns c = rw (c .row-mode .ensures) refl
+
+pub row-lock-spec : {M : Type 1} → statement M
+row-lock-spec =
+    tie.close
+    (tie.spec
+    (λ c κs. search needs)
+    returns)

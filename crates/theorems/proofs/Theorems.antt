@@ -1,0 +1,271 @@
+-- THE THEOREMS OF THE DESK, in full, in the order of the customer's demands. Each is proved by citing the one that a crate below proves, so that none of
+-- them can be weakened there and still fit. What the terms mean is in the definitions, crates/*/specs; what each function does is its contract, in
+-- crates/*/src, where demand 1 is carried: no function has a `requires`, and each result is equated with a definition. Assumes nothing.
+use mathlib.Core.Path.{_≡_}
+use mathlib.Core.Logic.{_⊎_}
+use mathlib.Core.List.{List, [], _∷_, _++_, map}
+use mathlib.Core.Bool.{true, false, cond}
+use mathlib.Core.Option.{none}
+use Prim.Native.Nat.{ℕ, _*_, _≤_, _<_}
+use lib.Dec.{ltb}
+use lib.ListN.{length, getD, take, replicate}
+use Rattle.lists.specs.Lists.{every, any, over, Below}
+use Rattle.lists.specs.Answer.{done, refused}
+use Rattle.hierarchy.specs.Hierarchy.{edgesOf, Edge, Reach, reach, Legal}
+use Rattle.intervals.specs.Numbering.{numbering}
+use Rattle.intervals.specs.Intervals.{lowOf, highOf, intervalTable}
+use Rattle.intervals.specs.Build.{buildStep}
+use Rattle.intervals.specs.declared.Interval.{Interval}
+use Rattle.intervals.specs.Cover.{lowAt, highAt, intervalAt, callInterval, contains, width, closest, coverOf}
+use Rattle.blocks.specs.File.{wholeBlocks, readFile, writeFile}
+use Rattle.locks.specs.declared.Mode.{Mode}
+use Rattle.locks.specs.declared.Stage.the-variants.{Waiting, Holding}
+use Rattle.locks.specs.Lent.{Hierarchy, lent, coverIn, lockOn}
+use Rattle.desk.specs.declared.Desk.{Desk}
+use Rattle.desk.specs.Desks.{freshDesk, stageAt}
+use Rattle.desk.specs.Sound.{soundDesk}
+use Rattle.desk.specs.Steps.{granted, enterRefusal, enterStep, getStep, putStep, leaveStep}
+use Rattle.runs.specs.Run.{Step, Event, start, run}
+use Rattle.runs.specs.Over.{startOver, runOver}
+use Rattle.history.specs.History.{history, grantedIn, bareEvent, opsIn, countedFrom, serialFinds, serialLeaves}
+use Rattle.history.specs.Serial.{Built, SerialSteps}
+use Rattle.history.specs.Results.{Made, AllMeet, toldByAll, lastDesk, lastValues}
+use Rattle.soundness.specs.Refused.{refusedWith}
+use Rattle.file_laws.specs.Files.{eventsOf}
+use Rattle.replay.specs.Replay.{StepAnswer, waits, stored, left, FileRun, granted as admitted, refused as denied, recordList, stepRecords, sizeOf, runFile}
+use Rattle.blocks.specs.File.{fileRecords}
+use Rattle.examples.specs.Cases.{intervals, cover, apart, listing, passes}
+use Rattle.examples.specs.Table.{T, shared, fileT, fileShared, starred}
+use Rattle.lists.proofs.Members.{In}
+use Rattle.interval_laws.proofs.Laws as laws
+use Rattle.intervals.proofs.Covers as closest-laws
+use Rattle.interval_laws.proofs.Covers as cover-laws
+use Rattle.block_laws.proofs.Laws as file-forms
+use Rattle.history.proofs.Serializable as serial
+use Rattle.history.proofs.Results as results
+use Rattle.file_laws.proofs.Laws as files
+use Rattle.soundness.proofs.Laws as unchanged
+use Rattle.soundness.proofs.Kept as kept
+use Rattle.soundness.proofs.NeverTen as never
+use Rattle.soundness.proofs.Covers as entered
+use Rattle.examples.proofs.Starred as computed
+
+-- DEMAND 1, as far as it is not a contract: a refusal changes nothing. Of enter, the desk
+refused-enter : (H : Hierarchy) (d : Desk) (party : ℕ) (mode : Mode) (names : List ℕ) (nameCount k : ℕ)
+    → (enterStep H d party mode names nameCount) .answer ≡ refused k → (enterStep H d party mode names nameCount) .desk ≡ d
+refused-enter = unchanged.refused-enter
+
+-- get changes no desk, refused or not; it is lent the values to read only
+unchanged-get : (H : Hierarchy) (d : Desk) (party node : ℕ) (values : List ℕ) → (getStep H d party node values) .desk ≡ d
+unchanged-get = unchanged.unchanged-get
+
+-- nor does put,
+unchanged-put : (H : Hierarchy) (d : Desk) (party node value : ℕ) (values : List ℕ) → (putStep H d party node value values) .desk ≡ d
+unchanged-put = unchanged.unchanged-put
+
+-- and refused it leaves the values
+refused-put : (H : Hierarchy) (d : Desk) (party node value k : ℕ) (values : List ℕ) → (putStep H d party node value values) .answer ≡ refused k
+    → (putStep H d party node value values) .values ≡ values
+refused-put = unchanged.refused-put
+
+-- of leave, the desk and the lent list
+refused-leave : (H : Hierarchy) (d : Desk) (party k : ℕ) (list : List ℕ) → (leaveStep H d party list) .answer ≡ refused k
+    → ((leaveStep H d party list) .desk ≡ d) × ((leaveStep H d party list) .list ≡ list)
+refused-leave = unchanged.refused-leave
+
+-- DEMAND 2: INTERVALS of every legal hierarchy, of n nodes with these edges
+module _ (n : ℕ) (table : List ℕ) (edgeCount : ℕ) (legal : Legal n table edgeCount) where
+  abbrev es : List ℕ
+  es = edgesOf table edgeCount
+
+  -- a node's number, 0 where it has none
+  abbrev number : ℕ → ℕ
+  number node = getD (numbering n es) node 0
+
+  -- numbers are 1 to n,
+  number-within : (node : ℕ) → number node ≤ n
+  number-within = laws.number-within n table edgeCount legal
+
+  -- and each is taken once
+  number-once : (i j : ℕ) → 1 ≤ number i → number i ≡ number j → i ≡ j
+  number-once = laws.number-once n table edgeCount legal
+
+  -- the reach that intervals are taken over is the paper's: the node, and all that edges lead to from it
+  reach-agrees : (node x : ℕ) → node < n → (Reach es node x → 1 ≤ getD (reach n es node) x 0) × (1 ≤ getD (reach n es node) x 0 → Reach es node x)
+  reach-agrees = laws.reach-agrees n table edgeCount legal
+
+  -- each reach holds a node with a number
+  reach-numbered : (node : ℕ) → node < n → (x : ℕ) × Reach es node x × (1 ≤ number x)
+  reach-numbered = laws.reach-numbered n table edgeCount legal
+
+  -- low is the least number of the nodes reached: at most each of them,
+  low-most : (node : ℕ) → node < n → (x : ℕ) → Reach es node x → 1 ≤ number x → lowOf n es node ≤ number x
+  low-most = laws.low-most n table edgeCount legal
+
+  -- and one of them: what holds of all these numbers holds of it
+  low-is : (node : ℕ) → node < n → (P : ℕ → Type 0) → ((x : ℕ) → Reach es node x → 1 ≤ number x → P (number x)) → P (lowOf n es node)
+  low-is = laws.low-is n table edgeCount legal
+
+  -- high is the greatest: at least each of them,
+  high-least : (node : ℕ) → node < n → (x : ℕ) → Reach es node x → 1 ≤ number x → number x ≤ highOf n es node
+  high-least = laws.high-least n table edgeCount legal
+
+  -- and one of them
+  high-is : (node : ℕ) → node < n → (P : ℕ → Type 0) → ((x : ℕ) → Reach es node x → 1 ≤ number x → P (number x)) → P (highOf n es node)
+  high-is = laws.high-is n table edgeCount legal
+
+  -- an interval lies in 1 to n, low at most high
+  interval-real : (node : ℕ) → node < n → (1 ≤ lowOf n es node) × (lowOf n es node ≤ highOf n es node) × (highOf n es node ≤ n)
+  interval-real node h = let r = laws.interval-real n table edgeCount legal node h in (r .from-one, r .ordered, r .to-most)
+
+  -- a parent's interval contains each child's
+  child-inside : (parent child : ℕ) → Edge es parent child → (lowOf n es parent ≤ lowOf n es child) × (highOf n es child ≤ highOf n es parent)
+  child-inside parent child e = let i = laws.child-inside n table edgeCount legal parent child e in (i .low-end, i .high-end)
+
+  -- the root's contains each
+  interval-inside-root : (node : ℕ) → node < n → (lowOf n es 0 ≤ lowOf n es node) × (highOf n es node ≤ highOf n es 0)
+  interval-inside-root node h = let i = laws.interval-inside-root n table edgeCount legal node h in (i .low-end, i .high-end)
+
+  -- nodes with a common reach have intervals that share a number
+  common-share : (a b x : ℕ) → a < n → b < n → Reach es a x → Reach es b x
+      → (k : ℕ) × ((lowOf n es a ≤ k) × (k ≤ highOf n es a)) × ((lowOf n es b ≤ k) × (k ≤ highOf n es b))
+  common-share a b x ha hb v w = let s = laws.common-share n table edgeCount legal a b x ha hb v w in (s .number, s .in-first, s .in-second)
+
+-- what building wrote, where it did: the 2n numbers of a legal hierarchy,
+built : (n : ℕ) (edges : List ℕ) (edgeCount : ℕ) (places scratch : List ℕ) → (buildStep n edges edgeCount places scratch) .answer ≡ done tt
+    → Legal n edges edgeCount × (2 * edgeCount ≤ length edges)
+    × (take (2 * n) ((buildStep n edges edgeCount places scratch) .places) ≡ intervalTable n (edgesOf edges edgeCount))
+built n edges edgeCount places scratch e = let t = laws.taken n edges edgeCount places scratch e in (t .legal, t .edges-long, t .wrote)
+
+-- low and high in turn for each node
+built-table : (n : ℕ) (es : List ℕ) → (length (intervalTable n es) ≡ 2 * n)
+    × ((node : ℕ) → node < n → (lowAt (intervalTable n es) node ≡ lowOf n es node) × (highAt (intervalTable n es) node ≡ highOf n es node))
+built-table n es = (laws.built-length n es, λ node h. (laws.built-low n es node h, laws.built-high n es node h))
+
+-- DEMAND 2: COVERS. c is the cover of a call's interval: one of the n nodes whose interval contains it, the narrowest of these, and of equally narrow ones the
+-- lowest
+abbrev Cover : ℕ → List ℕ → Interval → ℕ → Type 0
+Cover n table call c =
+    (c < n) × (contains (intervalAt table c) call ≡ true)
+    × ((r : ℕ) → r < n → contains (intervalAt table r) call ≡ true → width (intervalAt table c) ≤ width (intervalAt table r))
+    × ((r : ℕ) → r < n → contains (intervalAt table r) call ≡ true → width (intervalAt table r) ≡ width (intervalAt table c) → c ≤ r)
+
+-- over every legal hierarchy each call of nodes has its cover,
+built-cover : (n : ℕ) (table : List ℕ) (edgeCount : ℕ) → Legal n table edgeCount → (name : ℕ) (names : List ℕ) → ((r : ℕ) → In r (name ∷ names) → r < n)
+    → let t = intervalTable n (edgesOf table edgeCount) in Cover n t (callInterval t (name ∷ names)) (coverOf n t (name ∷ names))
+built-cover n table edgeCount legal name names below =
+    let c = cover-laws.built-cover n table edgeCount legal name names below in (c .below, c .around, c .narrowest, c .lowest)
+
+-- and over any table whatever no other node is the cover
+cover-only : (n : ℕ) (table : List ℕ) (call : Interval) (c : ℕ) → Cover n table call c → c ≡ closest n table call
+cover-only n table call c k = cover-laws.closest-only n table call c (record { below = k .0; around = k .1; narrowest = k .2; lowest = k .3 })
+
+-- a call that names one node, however often, has a cover with that node's interval (02, point 1)
+one-name : (n : ℕ) (table : List ℕ) (x name : ℕ) (names : List ℕ) → x < n → lowAt table x ≤ highAt table x → ((r : ℕ) → In r (name ∷ names) → r ≡ x)
+    → intervalAt table (coverOf n table (name ∷ names)) ≡ intervalAt table x
+one-name = cover-laws.one-name-again
+
+-- a name given twice counts once
+name-once : (table : List ℕ) (r : ℕ) (names : List ℕ) → In r names → callInterval table (r ∷ names) ≡ callInterval table names
+name-once = laws.name-once
+
+-- the cover that enter answers with is the cover, over any tables and desk,
+granted-cover : (H : Hierarchy) (d : Desk) (party : ℕ) (mode : Mode) (names : List ℕ) (nameCount c : ℕ)
+    → (enterStep H d party mode names nameCount) .answer ≡ done (granted c) → Cover (H .n) (H .intervals) (callInterval (H .intervals) (take nameCount names)) c
+granted-cover H d party mode names nameCount c e =
+    let k = entered.granted-cover H d party mode names nameCount c e in (k .below, k .around, k .narrowest, k .lowest)
+
+-- and a party that enter did not refuse holds or waits for the lock on it
+enter-stage : (H : Hierarchy) (d : Desk) (party : ℕ) (mode : Mode) (names : List ℕ) (nameCount : ℕ) → enterRefusal H d party names nameCount ≡ none → length (d .entries) ≡ 32
+    → let lock = lockOn H mode (coverIn H (take nameCount names)) in
+    let stage = stageAt ((enterStep H d party mode names nameCount) .desk) party in (stage ≡ Holding lock) ⊎ (stage ≡ Waiting lock)
+enter-stage = entered.enter-stage
+
+-- DEMAND 2: BLOCK FILES. Where writing accepts n records and answers k blocks, these blocks, read into any room, give the count n and the same record bytes;
+-- a room shorter than the 496 k bytes that reading needs is refused with 1, and left as it is
+write-then-read : (records : List ℕ) (n : ℕ) (room room′ : List ℕ) (k : ℕ) → writeFile records n room .answer ≡ done k
+    → readFile (take (512 * k) (writeFile records n room .room)) room′
+    ≡ cond (ltb (length room′) (496 * k))
+    (record { answer = refused 1; room = room′ })
+    (record { answer = done n; room = over (take (16 * n) records) room′ })
+write-then-read = file-forms.write-then-read
+
+-- where reading accepts a file of bytes and answers n records, these, with anything behind them, written into any room, give the same file, all its bytes;
+-- a room shorter than the file is refused with 1, and left as it is
+read-then-write : (file room : List ℕ) (n : ℕ) (rest room′ : List ℕ) → Below 256 file → readFile file room .answer ≡ done n
+    → writeFile (take (16 * n) (readFile file room .room) ++ rest) n room′
+    ≡ cond (ltb (length room′) (length file))
+    (record { answer = refused 1; room = room′ })
+    (record { answer = done (wholeBlocks file); room = over file room′ })
+read-then-write = file-forms.read-then-write
+
+-- DEMAND 3. What it claims of events, from these values at the start to those after: the values after are those after performing the book's row; the value
+-- answered by each get is what that same get finds; no get or put that was not refused is missing from the row; and the row is in the order of granting
+abbrev Claims : List ℕ → List (Event ℕ) → List ℕ → Type 0
+Claims values events after =
+    let row = history (map bareEvent events) in
+    (after ≡ serialLeaves values row) × (history events ≡ serialFinds values row) × (opsIn row ≡ countedFrom 0 events) × (map (λ v. v .party) row ≡ grantedIn events)
+
+claims : {values : List ℕ} {events : List (Event ℕ)} {after : List ℕ} → SerialSteps values events after → Claims values events after
+claims s = (s .leaves, s .answers, s .whole, s .order)
+
+-- any list of steps, refused ones included, over a built hierarchy, from a fresh desk and n values of zero,
+demand-3 : (H : Hierarchy) → Built H → (steps : List Step)
+    → let zeros : List ℕ = replicate (H .n) 0 in let ran = run steps (start H zeros) in Claims zeros (ran .events) (ran .state .values)
+demand-3 H b steps = claims (serial.demand-3 H b steps)
+
+-- and from any n values
+serializable : (H : Hierarchy) → Built H → (values : List ℕ) → length values ≡ H .n → (steps : List Step)
+    → let ran = run steps (start H values) in Claims values (ran .events) (ran .state .values)
+serializable H b values sized steps = claims (serial.serializable H b values sized steps)
+
+-- its first form: with the hierarchy beside the state, in no step's reach
+serializable-over : (H : Hierarchy) → Built H → (values : List ℕ) → length values ≡ H .n → (steps : List Step)
+    → let ran = runOver H steps (startOver values) in Claims values (ran .events) (ran .state .values)
+serializable-over H b values sized steps = claims (serial.serializable-over H b values sized steps)
+
+-- its second form, of a host's own calls: whatever calls were made, where each result meets the contract of its method, these very results
+results-serial : (H : Hierarchy) → Built H → (values : List ℕ) → length values ≡ H .n → (made : List Made) → AllMeet H freshDesk values made
+    → Claims values (toldByAll made) (lastValues values made)
+results-serial H b values sized made met = claims (results.results-serial H b values sized made met)
+
+-- and of a file: where it is not refused, of its step records and the answers in its listing, from n zeros
+file-serial : (file : List ℕ) (ran : FileRun) → runFile file ≡ done ran
+    → let records = recordList (fileRecords file) in Claims (replicate (sizeOf records) 0) (eventsOf (stepRecords records) (ran .answers)) (ran .values)
+file-serial file ran e = claims (files.file-serial file ran e)
+
+-- SOUNDNESS. A fresh desk is sound, whatever the hierarchy,
+fresh-sound : (H : Hierarchy) → soundDesk H freshDesk ≡ true
+fresh-sound = unchanged.fresh-sound
+
+-- and a sound desk of 32 entries and 32 places stays sound in each step, with any hierarchy and any arguments: enter,
+enter-sound : (H : Hierarchy) (d : Desk) (party : ℕ) (mode : Mode) (names : List ℕ) (nameCount : ℕ) → length (d .entries) ≡ 32 → length (d .queue) ≡ 32
+    → soundDesk H d ≡ true → soundDesk H ((enterStep H d party mode names nameCount) .desk) ≡ true
+enter-sound H d party mode names nameCount e q = kept.enter-sound H d party mode names nameCount (record { entries = e; queue = q })
+
+-- get,
+get-sound : (H : Hierarchy) (d : Desk) (party node : ℕ) (values : List ℕ) → soundDesk H d ≡ true → soundDesk H ((getStep H d party node values) .desk) ≡ true
+get-sound = kept.get-sound
+
+-- put
+put-sound : (H : Hierarchy) (d : Desk) (party node value : ℕ) (values : List ℕ) → soundDesk H d ≡ true
+    → soundDesk H ((putStep H d party node value values) .desk) ≡ true
+put-sound = kept.put-sound
+
+-- and leave
+leave-sound : (H : Hierarchy) (d : Desk) (party : ℕ) (list : List ℕ) → length (d .entries) ≡ 32 → length (d .queue) ≡ 32
+    → soundDesk H d ≡ true → soundDesk H ((leaveStep H d party list) .desk) ≡ true
+leave-sound H d party list e q = kept.leave-sound H d party list (record { entries = e; queue = q })
+
+-- so the desk that any list of steps leaves is sound,
+run-sound : (H : Hierarchy) → Built H → (values : List ℕ) (steps : List Step) → soundDesk H ((run steps (start H values)) .state .desk) ≡ true
+run-sound = never.run-sound
+
+-- and none of them is refused with 10
+never-ten : (H : Hierarchy) → Built H → (values : List ℕ) (steps : List Step) → any (refusedWith 10) ((run steps (start H values)) .events) ≡ false
+never-ten = never.never-ten
+
+-- the same of a host's own calls
+results-sound : (H : Hierarchy) → Built H → (values : List ℕ) (made : List Made) → AllMeet H freshDesk values made
+    → (soundDesk H (lastDesk freshDesk made) ≡ true) × (any (refusedWith 10) (toldByAll made) ≡ false)
+results-sound H b values made met = (never.results-sound H b values made met, never.results-never-ten H b values made met)
