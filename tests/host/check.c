@@ -1,10 +1,17 @@
 /* Compares block_check with the published Fletcher-32 vectors, and with a plain version written here from the rule.
-   Prints the first difference and the count of comparisons; exits 1 on any difference. */
+   Prints the first difference and the count of comparisons; exits 1 on any difference. It is C and C++. */
 #include "record_desk.h"
+#include "record_desk.h" /* once more: the header may be included twice */
 
 #include <stdio.h>
 #include <stdlib.h>
 #include <string.h>
+
+#ifdef __cplusplus
+#define LANGUAGE "C++"
+#else
+#define LANGUAGE "C"
+#endif
 
 enum { LARGEST = 1 << 20 };
 
@@ -51,8 +58,9 @@ static void against_plain(const char *what, const uint8_t *bytes, size_t length)
 
 int main(void)
 {
-    static const size_t large[] = {8190, 8191, 8192, 8193, 8194, 16383, 16384, 16385, 65023, 65024, 65535, 65536, 65537, 100001, 524287, LARGEST - 1, LARGEST};
-    uint8_t *random = malloc(LARGEST), *ones = malloc(LARGEST), *zeros = calloc(LARGEST, 1);
+    static const size_t large[] = {8190, 8191, 8192, 8193, 8194, 16383, 16384, 16385, 65023, 65024, 65535, 65536, 65537, 100001,
+        524287, LARGEST - 1, LARGEST};
+    uint8_t *random = (uint8_t *)malloc(LARGEST), *ones = (uint8_t *)malloc(LARGEST), *zeros = (uint8_t *)calloc(LARGEST, 1);
 
     if (!random || !ones || !zeros)
         return 2;
@@ -65,6 +73,7 @@ int main(void)
     vector("abcdefgh", 0xEBE19591u);
     vector("", 0);
     vector("a", 'a' + 65536u * 'a');
+    compare("a null pointer", NULL, 0, 0);
 
     /* every length to 3,000, odd ones too; the random strings start at places that are not aligned */
     for (size_t length = 0; length <= 3000; length++) {
@@ -86,7 +95,7 @@ int main(void)
         against_plain("255", ones, large[i]);
     }
 
-    printf("check: %lu comparisons, %lu differ\n", compared, differing);
+    printf("check, as %s: %lu comparisons, %lu differ\n", LANGUAGE, compared, differing);
     free(random);
     free(ones);
     free(zeros);

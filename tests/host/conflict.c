@@ -1,8 +1,15 @@
 /* Compares hold_conflict with a plain version written here from the rule: numbers shared one by one, not by the ends.
-   Prints the first difference and the count of comparisons; exits 1 on any difference. */
+   Prints the first difference and the count of comparisons; exits 1 on any difference. It is C and C++. */
 #include "record_desk.h"
+#include "record_desk.h" /* once more: the header may be included twice */
 
 #include <stdio.h>
+
+#ifdef __cplusplus
+#define LANGUAGE "C++"
+#else
+#define LANGUAGE "C"
+#endif
 
 struct hold {
     uint32_t mode, low, high;
@@ -56,8 +63,10 @@ static void all_modes(uint32_t low, uint32_t high, uint32_t low2, uint32_t high2
     enum { MODES = sizeof modes / sizeof modes[0] };
 
     for (int i = 0; i < MODES; i++)
-        for (int j = 0; j < MODES; j++)
-            compare((struct hold){modes[i], low, high}, (struct hold){modes[j], low2, high2});
+        for (int j = 0; j < MODES; j++) {
+            struct hold a = {modes[i], low, high}, b = {modes[j], low2, high2};
+            compare(a, b);
+        }
 }
 
 /* Every pair of intervals whose four ends are among these. */
@@ -77,6 +86,6 @@ int main(void)
 
     all_intervals(small, sizeof small / sizeof small[0]);
     all_intervals(large, sizeof large / sizeof large[0]);
-    printf("conflict: %lu comparisons, %lu differ\n", compared, differing);
+    printf("conflict, as %s: %lu comparisons, %lu differ\n", LANGUAGE, compared, differing);
     return differing != 0;
 }
