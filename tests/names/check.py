@@ -237,22 +237,22 @@ def look(document, at, span):
 
 
 def in_place(document, at, names, place):
-    """A list of names before a parenthesis with a file, a crate or a module."""
+    """A list of names before a parenthesis with a crate, a module or a file."""
+    crate, _, rest = place.partition("/")
+    labels = set()
     if place in crates:
         where = [f for f in files if f.startswith(f"crates/{place}/")]
         labels = {os.path.basename(f)[:-5] for f in glob.glob(f"crates/{place}/must-fail/*.edit")}
-    else:
-        crate, _, rest = place.partition("/")
-        labels = set()
-    if place in modules:
+    elif place in modules:
         where = [f for f in files if f.endswith(f"/{place}.antt")]
-    elif place not in crates:
-        if crate not in crates or not rest:
-            return
-        where = [f for f in files if f in (f"crates/{place}.antt", f"crates/{place}/Proof.antt") or (f.startswith(f"crates/{place}/") and rest in ("src", "specs", "proofs"))]
+    elif crate in crates:
+        whole = rest in ("src", "specs", "proofs")
+        where = [f for f in files if f in (f"crates/{place}.antt", f"crates/{place}/Proof.antt") or whole and f.startswith(f"crates/{place}/")]
         if not where:
             miss(document, at, f"no such file: ({place})")
             return
+    else:
+        return
     for name in names:
         name = name.split("::")[-1]
         if re.fullmatch(NAME, name) and name not in labels and not any(name in files[f].names for f in where):
@@ -260,18 +260,19 @@ def in_place(document, at, names, place):
 
 
 for document in DOCUMENTS:
-    if not os.path.exists(document):
-        continue
     # fenced blocks are blanked, lines kept
     text = re.sub(r"^```.*?^```", lambda m: "\n" * m[0].count("\n"), read(document), flags=re.S | re.M)
 
     def at(place):
         return text.count("\n", 0, place) + 1
 
-    for m in re.finditer(r"(?<!`)`([^`\n]+)`(?!`)", text):
-        look(document, at(m.start()), m[1])
-    flat = text.replace("\n  ", "   ").replace("\n", " ")  # places stay
-    for m in re.finditer(rf"((?:`[^`]+`(?:,? +and +|, +)?)+) \(([\w+-]+(?:/[\w+-]+)*)[,)]", flat):
+    for k, line in enumerate(text.split("\n"), 1):
+        if line.count("`") % 2:
+            miss(document, k, "a backquote without its second in the line")
+        for span in re.findall(r"`([^`]+)`", line):
+            look(document, k, span)
+    flat = text.replace("\n", " ")
+    for m in re.finditer(rf"((?:`[^`]+`(?:,? +and +|, +)?)+) +\(([\w+-]+(?:/[\w+-]+)*)[,)]", flat):
         in_place(document, at(m.start()), re.findall(r"`([^`]+)`", m[1]), m[2])
     for word, labels in (("edits?", edits), ("conformance", cases)):
         for m in re.finditer(rf"\b{word} +((?:`[^`]+`(?: +\([^()|]*\))?(?:,? +and +|, +)?)+)", flat):
