@@ -20,6 +20,12 @@ const PART: usize = 1600;
 // The bytes of its lines at most: 160 for each record.
 const TEXT: usize = 10 * PART;
 
+// What the lines of some records come to: the progress behind them, and whether all of them were written.
+struct Part {
+    progress: Progress,
+    written: bool,
+}
+
 // Room for a file.
 fn file_room() -> [u8; FILE]
     ensures { λ r. ⌜ 65537 ≡ length r ⌝ }
@@ -56,6 +62,13 @@ fn part_end(from: usize, all: usize) -> usize
     if all - from < PART { all } else { from + PART }
 }
 
+// Tells on standard error that the listing was not written; a program has no exit status of its own.
+fn tell(written: bool) {
+    if !written {
+        io::write_all(2, b"listing: standard output did not take the whole listing\n");
+    }
+}
+
 // Lists a part of the records into the text from its first byte on, and writes the lines.
 fn write_part(
     progress: Progress,
@@ -66,8 +79,8 @@ fn write_part(
     records: &[u8],
     values: &mut [u64],
     text: &mut [u8],
-) -> Progress
-    ensures { λ r. ⌜ writtenOf (lent n (now (intervals .entry)) (now (edges .entry)) «edge_count») r (now (values .exit)) (now (text .exit)) ≡ recordsWritten (anew (writtenOf (lent n (now (intervals .entry)) (now (edges .entry)) «edge_count») progress (now (values .entry)) (now (text .entry)))) (recordList (now (records .entry))) ⌝ }
+) -> Part
+    ensures { λ r. ⌜ writtenOf (lent n (now (intervals .entry)) (now (edges .entry)) «edge_count») (r .progress) (now (values .exit)) (now (text .exit)) ≡ recordsWritten (anew (writtenOf (lent n (now (intervals .entry)) (now (edges .entry)) «edge_count») progress (now (values .entry)) (now (text .entry)))) (recordList (now (records .entry))) ⌝ }
 {
     let desk = progress.desk;
     let start = Progress {
@@ -86,8 +99,11 @@ fn write_part(
         text,
     );
     let at = next.at;
-    io::write_all(1, &text[..at]);
-    next
+    let written = io::write_all(1, &text[..at]);
+    Part {
+        progress: next,
+        written,
+    }
 }
 
 // Writes the lines of all records, part by part.
@@ -99,18 +115,19 @@ fn write_steps(
     records: &[u8],
     values: &mut [u64],
     text: &mut [u8],
-) -> Progress
-    ensures { λ r. ⌜ writtenOf (lent n (now (intervals .entry)) (now (edges .entry)) «edge_count») r (now (values .exit)) (now (text .exit)) ≡ partsWritten (writtenOf (lent n (now (intervals .entry)) (now (edges .entry)) «edge_count») (record { desk = freshDesk; number = 1; at = 0 }) (now (values .entry)) (now (text .entry))) (partsIn (now (records .entry))) ⌝ }
+) -> Part
+    ensures { λ r. ⌜ writtenOf (lent n (now (intervals .entry)) (now (edges .entry)) «edge_count») (r .progress) (now (values .exit)) (now (text .exit)) ≡ partsWritten (writtenOf (lent n (now (intervals .entry)) (now (edges .entry)) «edge_count») (record { desk = freshDesk; number = 1; at = 0 }) (now (values .entry)) (now (text .entry))) (partsIn (now (records .entry))) ⌝ }
 {
     let mut progress = Progress {
         desk: Desk::fresh(),
         number: 1,
         at: 0,
     };
+    let mut written = true;
     let mut from = 0;
     while from < records.len() {
         let to = part_end(from, records.len());
-        progress = write_part(
+        let part = write_part(
             progress,
             n,
             intervals,
@@ -120,9 +137,14 @@ fn write_steps(
             values,
             text,
         );
+        progress = part.progress;
+        written = written & part.written;
         from = to;
     }
-    progress
+    Part {
+        progress,
+        written,
+    }
 }
 
 // Writes the listing of an open file.
@@ -138,10 +160,12 @@ fn write_run(
     ensures { λ _. ⌜ now (values .exit) ≡ (partsWritten (writtenOf (lent n (now (intervals .entry)) (now (edges .entry)) «edge_count») (record { desk = freshDesk; number = 1; at = 0 }) (now (values .entry)) (now (text .entry))) (partsIn (now (records .entry)))) .state .values ⌝ }
     ensures { λ _. ⌜ now (text .exit) ≡ (endWritten (partsWritten (writtenOf (lent n (now (intervals .entry)) (now (edges .entry)) «edge_count») (record { desk = freshDesk; number = 1; at = 0 }) (now (values .entry)) (now (text .entry))) (partsIn (now (records .entry))))) .text ⌝ }
 {
-    let progress = write_steps(n, intervals, edges, edge_count, records, values, text);
+    let steps = write_steps(n, intervals, edges, edge_count, records, values, text);
+    let progress = steps.progress;
     let desk = progress.desk;
     let at = texts::put_end(desk, 0, text);
-    io::write_all(1, &text[..at]);
+    let last = io::write_all(1, &text[..at]);
+    tell(steps.written & last);
 }
 
 // Writes the listing of an opened file, from the places that it was opened into.
@@ -175,7 +199,7 @@ fn write_opened(
 // Writes the one line of a refused file.
 fn write_refused(k: u8, text: &mut [u8]) {
     let at = texts::put_refused(k, text);
-    io::write_all(1, &text[..at]);
+    tell(io::write_all(1, &text[..at]));
 }
 
 // Reads the file, opens it, and writes its listing.

@@ -27,6 +27,9 @@ slice-aggregate-write-all c =
 write-all-requires : tie.Need-write-all-requires
 write-all-requires c κs = search needs
 
+tell-requires : tie.Need-tell-requires
+tell-requires c κs = search needs
+
 same-length : tie.Need-same-length
 same-length c = search needs
 
@@ -41,5 +44,6 @@ write-refused-spec =
     slice-reshare-prefix-write-all
     slice-aggregate-write-all
     write-all-requires
+    tell-requires
     same-length
     returns)

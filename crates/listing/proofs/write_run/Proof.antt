@@ -22,17 +22,20 @@ put-end-requires c κs = search needs
 
 slice-reshare-prefix-write-all : tie.Need-slice-reshare-prefix-write-all
 slice-reshare-prefix-write-all c =
-    let p = c .before .before .put-end in let s = c .before .before .before .before .before .before .before .before .before .write-steps in let d : Desk = s .result .desk in
+    let p = c .before .before .put-end in let s = c .before .before .before .before .before .before .before .before .before .before .write-steps in let d : Desk = s .result .progress .desk in
     let h : p .result ≤ length (p .last .1 .1 .0) = puts-within 0 (endLine (holdersAt d) (d .waiting) (d .grants)) (s .last .1 .1 .1 .1 .1 .1 .0) (omega arith) (p .ensures) in h
 
 slice-aggregate-write-all : tie.Need-slice-aggregate-write-all
 slice-aggregate-write-all c =
-    let p = c .before .before .before .put-end in let s = c .before .before .before .before .before .before .before .before .before .before .write-steps in let d : Desk = s .result .desk in
+    let p = c .before .before .before .put-end in let s = c .before .before .before .before .before .before .before .before .before .before .before .write-steps in let d : Desk = s .result .progress .desk in
     let h : p .result ≤ length (p .last .1 .1 .0) = puts-within 0 (endLine (holdersAt d) (d .waiting) (d .grants)) (s .last .1 .1 .1 .1 .1 .1 .0) (omega arith)
     (p .ensures) in sym (length-take-le _ _ h)
 
 write-all-requires : tie.Need-write-all-requires
 write-all-requires c κs = search needs
+
+tell-requires : tie.Need-tell-requires
+tell-requires c κs = search needs
 
 same-length : tie.Need-same-length
 same-length c = search needs
@@ -41,9 +44,9 @@ same-length-2 : tie.Need-same-length-2
 same-length-2 c = search needs
 
 returns : tie.Need-returns
-returns c = let s = c .before .before .before .before .before .before .before .before .before .before .before .write-steps in (
+returns c = let s = c .before .before .before .before .before .before .before .before .before .before .before .before .before .before .write-steps in (
   ap (λ (w : Written). w .state .values) (s .ensures),
-  ap (λ (p : Page). p .text) (c .before .before .before .before .put-end .ensures) ∙ ap (λ (w : Written). (endWritten w) .text) (s .ensures),
+  ap (λ (p : Page). p .text) (c .before .before .before .before .before .before .put-end .ensures) ∙ ap (λ (w : Written). (endWritten w) .text) (s .ensures),
 )
 
 pub write-run-spec : {M : Type 1} → statement M
@@ -55,6 +58,7 @@ write-run-spec =
     slice-reshare-prefix-write-all
     slice-aggregate-write-all
     write-all-requires
+    tell-requires
     same-length
     same-length-2
     returns)

@@ -13,13 +13,13 @@ use Rattle.listing.proofs.write_steps.Statement.{statement}
 use Rattle.listing.proofs.write_steps.Tie as tie
 
 abbrev Inv-loop : tie.InvT-loop
-Inv-loop n intervals edges edge-count records values₀ text₀ progress₀ from₀ values text progress from =
+Inv-loop n intervals edges edge-count records values₀ text₀ progress₀ written₀ from₀ values text progress written from =
     (from ≤ length records) × (length values ≡ length values₀) × (length text ≡ length text₀)
     × (partsWritten (writtenOf (lent n intervals edges edge-count) progress values text) (partsIn (drop from records))
     ≡ partsWritten (writtenOf (lent n intervals edges edge-count) (record { desk = freshDesk; number = 1; at = 0 }) values₀ text₀) (partsIn records))
 
 abbrev μ-loop : tie.MeasureT-loop
-μ-loop n intervals edges edge-count records values₀ text₀ progress₀ from₀ values text progress from = length records - from
+μ-loop n intervals edges edge-count records values₀ text₀ progress₀ written₀ from₀ values text progress written from = length records - from
 
 fresh-requires : tie.Need-fresh-requires Inv-loop μ-loop
 fresh-requires c κs = search needs
@@ -51,22 +51,22 @@ write-part-requires c κs = search needs
 loop-less : tie.Need-loop-less Inv-loop μ-loop
 loop-less c = omega (
   arith,
-  c .before .before .before .before .before .before .before .before .part-end .ensures,
-  c .before .before .before .before .before .before .before .before .before
+  c .before .before .before .before .before .before .before .before .before .before .part-end .ensures,
+  c .before .before .before .before .before .before .before .before .before .before .before
       .loop-test .taken,
 )
 
 loop-again : tie.Need-loop-again Inv-loop μ-loop
 loop-again c =
-    let e = c .before .before .before .before .before .before .before .before in
+    let e = c .before .before .before .before .before .before .before .before .before .before in
     let a = e .before .before .loop in
     let v = a .inv in
     let z = e .before .before .before .before .before .before .before .before .before .args in (
       omega (arith, e .part-end .ensures),
-      c .before .before .before .values .given ∙ v .1,
-      c .before .text .given ∙ v .2,
+      c .before .before .before .before .before .values .given ∙ v .1,
+      c .before .before .before .text .given ∙ v .2,
       parts-turn (z .records .now) (a .from) (e .part-end .result) (e .part-end .ensures) (e .before .loop-test .taken)
-          (writtenOf (lent (z .n) (z .intervals .now) (z .edges .now) (z .edge-count)) (a .progress) (a .values) (a .text)) (v .3) (c .before .before .before .before .write-part .ensures),
+          (writtenOf (lent (z .n) (z .intervals .now) (z .edges .now) (z .edge-count)) (a .progress) (a .values) (a .text)) (v .3) (c .before .before .before .before .before .before .write-part .ensures),
     )
 
 same-length : tie.Need-same-length Inv-loop μ-loop
