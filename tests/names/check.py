@@ -17,6 +17,7 @@ A name is found where it is *declared*; that it occurs, in a comment or in use, 
   files                            must-fail edits, conformance cases, a function's proofs by its folder
   the kit's                        what a crate imports of it (`use lib.., mathlib..`), or calls (`io::..`)
   in include/record_desk.h         functions
+  in tools/blockfile               functions
 and the words in WORDS, each with its reason.
 
 Beyond that:
@@ -34,7 +35,7 @@ os.chdir(os.path.join(os.path.dirname(os.path.abspath(__file__)), "..", ".."))
 
 DOCUMENTS = ["docs/READING.md", "docs/RULES.md", "docs/DECISIONS.md", "docs/ASSUMPTIONS.md", "docs/PROOF-NOTES.md", "README.md"]
 
-COMMANDS = {"rt", "gcc"}
+COMMANDS = {"rt", "rattle", "gcc", "ulimit"}
 
 # Words that are no names of the crates, by the reason why they may be cited.
 WORDS = {
@@ -143,7 +144,8 @@ cases = {os.path.basename(f)[:-7] for f in glob.glob("conformance/*.blocks")}
 given = {os.path.basename(f) for f in glob.glob("crates/*/*") if os.path.isfile(f)}  # stdin, stdout
 modules = {os.path.basename(f)[:-5] for f in files if f.endswith(".antt")} - {"Proof", "Lib"}
 header = set(re.findall(r"\b(\w+)\(", re.sub(r"/\*.*?\*/", "", read("include/record_desk.h"), flags=re.S)))
-declared = set(crates) | given | edits | cases | modules | header | kit | {"io", "libc", "bytes"}
+tool = set(re.findall(r"^def (\w+)\(", read("tools/blockfile"), re.M))
+declared = set(crates) | tool | given | edits | cases | modules | header | kit | {"io", "libc", "bytes"}
 members, inner = {}, set()
 for d in files.values():
     declared |= d.names | d.parameters
