@@ -26,7 +26,7 @@ pub record Written : Type 0 where
 abbrev pub writtenOf : Hierarchy → Progress → List ℕ → List ℕ → Written
 writtenOf H p values text = record { state = stateOf H (p .desk) values; number = p .number; page = pageOf text (p .at) }
 
--- a record of another kind is performed as a step, and its line is put
+-- a record of another kind is performed, refused with 4 where it is not right, and its line is put
 abbrev pub stepWritten : Written → List ℕ → Written
 stepWritten w r =
     record {
@@ -35,7 +35,7 @@ stepWritten w r =
       page = put (stepLine (w .number) ((perform (w .state) r) .answer)) (w .page);
     }
 
--- a size or edge record, of a kind below 3, changes nothing
+-- a record of a kind below 3, which is no step's, changes nothing and has no line
 abbrev pub recordWritten : Written → List ℕ → Written
 recordWritten w r = cond (leb 3 (kindOf r)) (stepWritten w r) w
 

@@ -46,7 +46,7 @@ fn after(number: usize) -> usize
     }
 }
 
-// One record: a size or edge record changes nothing; any other is performed, and its line is put.
+// One record: of a kind below 3, which is no step's, it changes nothing; any other is performed, and its line is put.
 fn put_step(
     progress: Progress,
     n: usize,
