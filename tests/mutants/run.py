@@ -174,8 +174,8 @@ def main(words):
             print(f"mutants: changes.txt, line {at}: {e}: [{section}] {old}  =>  {new}")
             count["wrong"] += 1
     killed = count["differs"] + count["crash"] + count["endless"]
-    print(f"mutants: {len(changes)} changes, {len(files)} files: {killed} killed ({count['crash']} of them only by a crash, {count['endless']} did not end), "
-          f"{count['equivalent']} equivalent, {count['wrong']} amiss")
+    print(f"mutants: {len(changes)} changes, {len(files)} files: {killed} killed ({count['crash']} of them only by a crash, "
+          f"{count['endless']} did not end), {count['equivalent']} equivalent, {count['wrong']} amiss")
     return 1 if count["wrong"] or not changes else 0
 
 
