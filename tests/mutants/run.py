@@ -113,8 +113,8 @@ def fate(source, files):
     A crash counts only where no file has it print something else. A short file that finds one out is tried first on the next."""
     try:
         listing = load(source, "changed")
-    except SyntaxError as e:
-        raise Wrong(f"is no Python: {e.msg}") from None
+    except Exception as e:
+        raise Wrong(f"is no program: {e}") from None
     crash = None
     for at, (name, data, want) in enumerate(files):
         got = run(listing, data)
