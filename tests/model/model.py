@@ -13,6 +13,11 @@ class Refusal(Exception):
 
 # ---- blocks of 512 bytes
 
+def little(data):
+    """A number, low byte first."""
+    return int.from_bytes(data, "little")
+
+
 def check(data):
     """Fletcher-32; an odd last byte is followed by a zero."""
     if len(data) % 2:
@@ -24,16 +29,31 @@ def check(data):
     return a + 65536 * b
 
 
+def check_wrong(block):
+    return check(block[:508]) != little(block[508:512])
+
+
+SIZE, EDGE, ENTER, GET, PUT, LEAVE = 1, 2, 3, 4, 5, 6
+READING, WRITING = 1, 2
 # kind -> bytes that carry fields (an enter's depends on its name count)
-FIELDS = {1: {1, 2}, 2: {1, 2}, 4: {1, 2}, 5: {1, 2, 4, 5, 6, 7, 8, 9, 10, 11}, 6: {1}}
+FIELDS = {
+    SIZE: {1, 2},
+    EDGE: {1, 2},
+    GET: {1, 2},
+    PUT: {1, 2, 4, 5, 6, 7, 8, 9, 10, 11},
+    LEAVE: {1},
+}
 
 
 def record_wrong(r):
     kind = r[0]
-    if kind == 3:
-        if r[2] not in (1, 2) or not 1 <= r[3] <= 8:
+    if kind == ENTER:
+        mode, count = r[2], r[3]
+        if mode not in (READING, WRITING):
             return True
-        used = {1, 2, 3} | set(range(4, 4 + r[3]))
+        if not 1 <= count <= 8:
+            return True
+        used = {1, 2, 3} | set(range(4, 4 + count))
     elif kind in FIELDS:
         used = FIELDS[kind]
     else:
@@ -44,10 +64,10 @@ def record_wrong(r):
 def order_wrong(kinds_before, kind):
     """One size record comes first, then all edges, then steps."""
     if not kinds_before:
-        return kind != 1
-    if kind == 1:
+        return kind != SIZE
+    if kind == SIZE:
         return True
-    return kind == 2 and any(k > 2 for k in kinds_before)
+    return kind == EDGE and kinds_before[-1] > EDGE
 
 
 def read_file(data):
@@ -56,19 +76,26 @@ def read_file(data):
     blocks = [data[i:i + 512] for i in range(0, len(data), 512)]
     records, kinds = [], []
     for i, block in enumerate(blocks):
-        if check(block[:508]) != int.from_bytes(block[508:512], "little"):
+        if check_wrong(block):
             raise Refusal(3)
-        count = int.from_bytes(block[4:6], "little")
-        last = i == len(blocks) - 1
-        if int.from_bytes(block[:4], "little") != i or block[6] or block[7]:
+        if little(block[0:4]) != i:
             raise Refusal(4)
-        if not 1 <= count <= 31 or (not last and count != 31):
+        count, last = little(block[4:6]), i == len(blocks) - 1
+        if not 1 <= count <= 31:
             raise Refusal(4)
-        if any(block[8 + 16 * count:508]):
+        if not last and count != 31:
+            raise Refusal(4)
+        if any(block[6:8]):
+            raise Refusal(4)
+        if any(block[8 + 16 * count:504]):
+            raise Refusal(4)
+        if any(block[504:508]):
             raise Refusal(4)
         for k in range(count):
             r = block[8 + 16 * k:24 + 16 * k]
-            if record_wrong(r) or order_wrong(kinds, r[0]):
+            if record_wrong(r):
+                raise Refusal(4)
+            if order_wrong(kinds, r[0]):
                 raise Refusal(4)
             kinds.append(r[0])
             records.append(r)
@@ -83,7 +110,9 @@ class Hierarchy:
             raise Refusal(5)
         if len(edges) > 1024:
             raise Refusal(6)
-        if any(p >= n or c >= n or c == 0 or p == c for p, c in edges):
+        if any(p >= n or c >= n for p, c in edges):
+            raise Refusal(7)
+        if any(c == 0 or p == c for p, c in edges):
             raise Refusal(7)
         if len(set(edges)) != len(edges):
             raise Refusal(8)
@@ -99,12 +128,11 @@ class Hierarchy:
             self.high.append(max(numbers))
 
     def reach(self, r):
-        seen, todo = {r}, [r]
-        while todo:
-            for c in self.children[todo.pop()]:
-                if c not in seen:
-                    seen.add(c)
-                    todo.append(c)
+        """The record itself and all that edges lead to, in rounds: what was found last leads to what is found next."""
+        seen, last = {r}, {r}
+        while last:
+            last = {c for x in last for c in self.children[x]} - seen
+            seen |= last
         return seen
 
     def numbering(self):
@@ -132,21 +160,22 @@ class Hierarchy:
                 stack.append((c, iter(self.children[c])))
         return number
 
+    def width(self, r):
+        return self.high[r] - self.low[r]
+
     def contains(self, r, low, high):
         return self.low[r] <= low and high <= self.high[r]
 
     def cover(self, names):
         """02, point 1: of all records whose interval contains the call's the narrowest, of equally narrow ones the lowest number."""
-        low, high = min(self.low[x] for x in names), max(self.high[x] for x in names)
+        low = min(self.low[x] for x in names)
+        high = max(self.high[x] for x in names)
         around = [x for x in range(self.n) if self.contains(x, low, high)]
-        narrowest = min(self.high[x] - self.low[x] for x in around)
-        return min(x for x in around if self.high[x] - self.low[x] == narrowest)
+        narrowest = min(self.width(x) for x in around)
+        return min(x for x in around if self.width(x) == narrowest)
 
 
 # ---- visits
-
-READING, WRITING = 1, 2
-
 
 class Desk:
     def __init__(self, h):
@@ -159,8 +188,9 @@ class Desk:
 
     def conflict(self, a, b):
         (mode_a, cover_a), (mode_b, cover_b) = a, b
-        apart = self.h.high[cover_a] < self.h.low[cover_b] or self.h.high[cover_b] < self.h.low[cover_a]
-        return not apart and not mode_a == mode_b == READING
+        before = self.h.high[cover_a] < self.h.low[cover_b]
+        behind = self.h.high[cover_b] < self.h.low[cover_a]
+        return not before and not behind and not mode_a == mode_b == READING
 
     def grant(self, party, visit):
         self.holds[party] = visit
@@ -174,7 +204,9 @@ class Desk:
         self.known(party)
         if party in self.holds or party in self.calls:
             raise Refusal(12)
-        if not 1 <= len(names) <= 8 or any(x >= self.h.n for x in names):
+        if not 1 <= len(names) <= 8:
+            raise Refusal(15)
+        if any(x >= self.h.n for x in names):
             raise Refusal(15)
         visit = (mode, self.h.cover(names))
         if any(self.conflict(visit, v) for v in [*self.holds.values(), *self.calls.values()]):
@@ -229,12 +261,12 @@ class Desk:
 
 
 def perform(desk, r):
-    if r[0] == 3:
+    if r[0] == ENTER:
         return desk.enter(r[1], r[2], list(r[4:4 + r[3]]))
-    if r[0] == 4:
+    if r[0] == GET:
         return desk.get(r[1], r[2])
-    if r[0] == 5:
-        return desk.put(r[1], r[2], int.from_bytes(r[4:12], "little"))
+    if r[0] == PUT:
+        return desk.put(r[1], r[2], little(r[4:12]))
     return desk.leave(r[1])
 
 
@@ -243,12 +275,12 @@ def perform(desk, r):
 def listing(data):
     try:
         records = read_file(data)
-        n = int.from_bytes(records[0][1:3], "little")
-        desk = Desk(Hierarchy(n, [(r[1], r[2]) for r in records if r[0] == 2]))
+        n = little(records[0][1:3])
+        desk = Desk(Hierarchy(n, [(r[1], r[2]) for r in records if r[0] == EDGE]))
     except Refusal as e:
         return [f"refused {e.number}"]
     lines = []
-    for k, r in enumerate((r for r in records if r[0] > 2), 1):
+    for k, r in enumerate((r for r in records if r[0] > EDGE), 1):
         try:
             lines.append(f"{k} {perform(desk, r)}")
         except Refusal as e:
