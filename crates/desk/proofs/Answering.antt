@@ -19,7 +19,7 @@ use Rattle.desk.specs.declared.EnterAnswer.the-variants.{Granted, Waits,
 use Rattle.desk.specs.declared.GetAnswer.the-variants.{Value, Waiting, Refused as GetRefused}
 use Rattle.desk.specs.declared.PutAnswer.the-variants.{Stored, Refused as PutRefused}
 use Rattle.desk.specs.declared.LeaveAnswer.the-variants.{Left, Refused as LeaveRefused}
-use Rattle.desk.specs.Steps.{putOwn, countGrants, enterRefusal, grantTo, queueLast, free, enterIf, enterUnless, enterStep}
+use Rattle.desk.specs.Steps.{granted, putOwn, countGrants, enterRefusal, grantTo, queueLast, free, enterIf, enterUnless, enterStep}
 use Rattle.desk.specs.Steps.{valueChecks, getUnless, getStep, putUnless, putStep, afterLeaving, leaveUnless, leaveRefusal, leaveStep}
 use Rattle.desk.specs.Answers.{Enters, Gets, Puts, Leaves}
 use Rattle.desk.specs.Inner.{leftBy}
@@ -37,18 +37,16 @@ module _ (H : Hierarchy) (d : Desk) (party : ℕ) (mode : Mode) (names : List �
       → Enters (record { desk = d; answer = EnterRefused k }) (enterStep H d party mode names nameCount)
   enter-refused k e = rw (entered (some k) e) (refl, refl)
 
-  pub enter-granted : (d′ : Desk) (c : ℕ) (l : Lock) → enterRefusal H d party names nameCount ≡ none → c ≡ coverIn H (take nameCount names) → l ≡ lockOn H mode c
-      → free d l ≡ true → d′ ≡ grantTo d party l → Enters (record { desk = d′; answer = Granted c }) (enterStep H d party mode names nameCount)
-  enter-granted d′ c l e ec el f ed =
-      let same : l ≡ lock = el ∙ ap (lockOn H mode) ec in
+  pub enter-granted : (d′ : Desk) (l : Lock) → enterRefusal H d party names nameCount ≡ none → l ≡ lock
+      → free d l ≡ true → d′ ≡ grantTo d party l → Enters (record { desk = d′; answer = Granted (l .cover) }) (enterStep H d party mode names nameCount)
+  enter-granted d′ l e same f ed =
       let is : enterStep H d party mode names nameCount ≡ enterIf true d party lock
       = entered none e ∙ ap (λ (b : Bool). enterIf b d party lock) (ap (free d) (sym same) ∙ f) in
-      rw is (ed ∙ ap (grantTo d party) same, rw ec refl)
+      rw is (ed ∙ ap (grantTo d party) same, ap (λ (x : Lock). done (granted (x .cover))) same)
 
-  pub enter-waits : (d′ : Desk) (c : ℕ) (l : Lock) → enterRefusal H d party names nameCount ≡ none → c ≡ coverIn H (take nameCount names) → l ≡ lockOn H mode c
+  pub enter-waits : (d′ : Desk) (l : Lock) → enterRefusal H d party names nameCount ≡ none → l ≡ lock
       → free d l ≡ false → d′ ≡ queueLast d party l → Enters (record { desk = d′; answer = Waits }) (enterStep H d party mode names nameCount)
-  enter-waits d′ c l e ec el f ed =
-      let same : l ≡ lock = el ∙ ap (lockOn H mode) ec in
+  enter-waits d′ l e same f ed =
       let is : enterStep H d party mode names nameCount ≡ enterIf false d party lock
       = entered none e ∙ ap (λ (b : Bool). enterIf b d party lock) (ap (free d) (sym same) ∙ f) in
       rw is (ed ∙ ap (queueLast d party) same, refl)

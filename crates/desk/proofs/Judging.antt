@@ -10,12 +10,9 @@ use borrow.Author.Tests.{ne-eqb}
 use Rattle.lists.specs.Lists.{anyBelow}
 use Rattle.lists.specs.Answer.{Check, _when_, refusal}
 use Rattle.hierarchy.specs.Hierarchy.{edgesOf, someEdge, sizeWrong, edgesTooMany, edgeWrong}
-use Rattle.intervals.specs.Cover.{callInterval}
 use Rattle.lists.proofs.Refusals.{refusal-nil, refused-here, refused-later}
-use Rattle.hierarchy.proofs.Legals.{right-size}
-use Rattle.intervals.proofs.Covers.{closest-below}
 use Rattle.locks.specs.Stages.{isOut, isWaiting}
-use Rattle.locks.specs.Lent.{Hierarchy, lent, spanned, coverIn, tablesShort, intervalWrong, insideHold}
+use Rattle.locks.specs.Lent.{Hierarchy, lent, spanned, tablesShort, intervalWrong, insideHold}
 use Rattle.locks.proofs.Tables.{inside-any}
 use Rattle.parties.specs.Sound.{soundParties}
 use Rattle.parties.proofs.Clauses.{sound-few}
@@ -92,12 +89,6 @@ sound-spanned n intervals edges edgeCount d = refl
 -- an arrival list that is sound is within its places
 pub few-waiting : (H : Hierarchy) (d : Desk) (party : ℕ) (short : Bool) → StepFacts H d party short → d .waiting ≤ 32
 few-waiting H d party short f = sound-few H (d .entries) (d .queue) (d .waiting) (f .sound)
-
--- a cover is a node, and so fits where a lock keeps it
-pub cover-fits : (H : Hierarchy) (d : Desk) (party : ℕ) (short : Bool) → StepFacts H d party short → (names : List ℕ) → coverIn H names < 256
-cover-fits H d party short f names =
-    let size = right-size (H .n) (f .sized) in
-    omega (arith, size .1, closest-below (H .intervals) (callInterval (H .intervals) names) (H .n) (size .0))
 
 -- WHAT GET AND PUT LOOK AT BESIDES
 module _ (H : Hierarchy) (d : Desk) (party node : ℕ) where

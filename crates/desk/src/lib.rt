@@ -272,8 +272,8 @@ impl Desk {
                 answer: EnterAnswer::Refused(15),
             };
         }
-        let c = intervals::cover(n, intervals, &names[..name_count]);
-        let l = locks::lock_on(intervals, mode, c as u16);
+        let l = locks::lock_called(n as u16, intervals, mode, &names[..name_count]);
+        let c = l.cover as usize;
         if parties::is_free(entries, l) {
             let d = self.granted(party, l);
             return EnterStep {

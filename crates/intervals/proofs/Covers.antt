@@ -78,9 +78,13 @@ module _ (table : List ℕ) (call : Interval) where
   so-far zero = record { below = omega arith; cover = λ r l h. absurd (omega arith) }
   so-far (suc k) = so-far-more k (closest k table call) (so-far k)
 
-  -- what the definition gives is a node,
+  -- what the definition gives is 0 or below n,
+  pub closest-least : (n : ℕ) → closest n table call ≤ n - 1
+  closest-least n = so-far n .below
+
+  -- so of some nodes it is one,
   pub closest-below : (n : ℕ) → 1 ≤ n → closest n table call < n
-  closest-below n h = omega (arith, so-far n .below)
+  closest-below n h = omega (arith, closest-least n)
 
   -- and where the interval of some node contains the call's, it is the cover
   pub closest-cover : (n r : ℕ) → r < n → contains (intervalAt table r) call ≡ true → IsCover n table call (closest n table call)

@@ -275,7 +275,7 @@ fn greater(x: u16, y: u16) -> u16
 }
 
 // The call's interval: from the least low to the greatest high of its names.
-fn call_interval(intervals: &[u16], names: &[u16]) -> Interval
+pub fn call_interval(intervals: &[u16], names: &[u16]) -> Interval
     ensures { λ r. ⌜ r ≡ callInterval (now (intervals .entry)) (now (names .entry)) ⌝ }
 {
     if names.len() == 0 {
@@ -333,7 +333,7 @@ fn worth_a_look(n: usize, intervals: &[u16]) -> usize
 }
 
 // Of n nodes the closest to a call's interval, by one pass over those worth a look: over all of them where the table has their intervals.
-fn closest(n: usize, intervals: &[u16], call: Interval) -> usize
+pub fn closest(n: usize, intervals: &[u16], call: Interval) -> usize
     ensures { λ r. ⌜ r ≡ closestOf n (now (intervals .entry)) call ⌝ }
 {
     let end = worth_a_look(n, intervals);

@@ -7,7 +7,7 @@ ghost use Prim.Native.Nat.{_*_, _≤_};
 ghost use lib.ListN.{length, take};
 ghost use Rattle.locks.specs.Locks.{bothReading, conflict as conflicting, realInterval, isMode, isHold, modeNumbered, modeNumber, lockNumbered, conflictCall};
 ghost use Rattle.locks.specs.Stages.{held, isOut, isWaiting, againstHolder, againstWaiter, ofLock, isReading, readsOnly};
-ghost use Rattle.locks.specs.Lent.{lent, spanned, tablesShort, intervalWrong, namesWrong, lockOn, coverRight, insideLock, insideHold};
+ghost use Rattle.locks.specs.Lent.{lent, spanned, coverIn, tablesShort, intervalWrong, namesWrong, lockOn, coverRight, insideLock, insideHold};
 ghost use Rattle.locks.specs.Inner.{outside};
 
 // A visit is reading or writing.
@@ -228,14 +228,16 @@ pub fn names_wrong(n: usize, names: &[u16], name_count: usize) -> bool
     some_name_wrong(n, names, name_count)
 }
 
-// The lock of a mode on a cover.
-pub fn lock_on(intervals: &[u16], mode: Mode, cover: u16) -> Lock
-    ensures { λ r. ⌜ r ≡ lockOn (spanned 0 (now (intervals .entry))) mode cover ⌝ }
+// The lock that a call asks for: on its cover, with the cover's interval and not the call's.
+pub fn lock_called(n: u16, intervals: &[u16], mode: Mode, names: &[u16]) -> Lock
+    ensures { λ r. ⌜ r ≡ lockOn (spanned n (now (intervals .entry))) mode (coverIn (spanned n (now (intervals .entry))) (now (names .entry))) ⌝ }
 {
-    let i = intervals::interval_at(intervals, cover as usize);
+    let call = intervals::call_interval(intervals, names);
+    let cover = intervals::closest(n as usize, intervals, call);
+    let i = intervals::interval_at(intervals, cover);
     Lock {
         mode,
-        cover,
+        cover: cover as u16,
         low: i.low,
         high: i.high,
     }
@@ -320,6 +322,9 @@ fn lock_numbered(m: u32, low: u32, high: u32) -> Lock
     }
 }
 
+// What the C host is answered where one of the two is no hold.
+const NO_HOLD: u32 = 10;
+
 // Whether two holds conflict, for the C host: 0 no, 1 yes, 10 for what is no hold.
 #[no_mangle]
 pub extern "C" fn hold_conflict(
@@ -333,10 +338,10 @@ pub extern "C" fn hold_conflict(
     ensures { λ r. ⌜ r ≡ conflictCall mode low high mode2 low2 high2 ⌝ }
 {
     if !is_hold(mode, low, high) {
-        return 10;
+        return NO_HOLD;
     }
     if !is_hold(mode2, low2, high2) {
-        return 10;
+        return NO_HOLD;
     }
     let a = lock_numbered(mode, low, high);
     let b = lock_numbered(mode2, low2, high2);

@@ -11,11 +11,12 @@ use borrow.Author.Needs.{needs}
 use borrow.Author.Tests.{ltb-false}
 use Rattle.lists.specs.Answer.{Check, refusal}
 use Rattle.lists.proofs.Refusals.{refusal-nil, refused-here, refused-later}
+use Rattle.hierarchy.proofs.Legals.{right-size}
 use Rattle.locks.specs.Stages.{isOut}
 use Rattle.locks.specs.Lent.{Hierarchy, lent}
 use Rattle.desk.specs.Desks.{stageAt}
 use Rattle.desk.specs.Steps.{StepFacts, enterOwn, enterRefusal}
-use Rattle.desk.proofs.Judging.{judged-own, judged-some, judged-facts, few-waiting, cover-fits}
+use Rattle.desk.proofs.Judging.{judged-own, judged-some, judged-facts, few-waiting}
 use Rattle.desk.proofs.Answering.{enter-refused, enter-granted, enter-waits}
 use Rattle.desk.proofs.Desk.enter.Statement.{statement}
 use Rattle.desk.proofs.Desk.enter.Tie as tie
@@ -75,30 +76,30 @@ returns-3 c = let k = c .before .before in let t = k .before .before .before .be
     enter-refused (lentTo s) (s .args .self) (s .args .party) (s .args .mode) (s .args .names .now) (s .args .name-count) 15
     (passed t ∙ refused-later _ _ (found (k .before) ∙ k .if2 .left) ∙ refused-here _ _ (sym (c .before .names-wrong .ensures) ∙ c .if3 .taken))
 
-slice-aggregate-cover : tie.Need-slice-aggregate-cover
-slice-aggregate-cover c = let t = c .before .before .before .before .before .before .before in let s = t .before .before .before .before .before in
-    sym (length-take-le (s .args .name-count) (s .args .names .now) (ltb-false _ _ (facts t .own-lent)))
+cast-lock-called : tie.Need-cast-lock-called
+cast-lock-called c = let t = c .before .before .before .before .before .before in let s = t .before .before .before .before .before in
+    omega (arith, right-size (s .args .n) (facts t .sized) .1)
 
-cast-lock-on : tie.Need-cast-lock-on
-cast-lock-on c = let t = c .before .before .before .before .before .before .before .before in let s = t .before .before .before .before .before in
-    omega (arith, c .cover .ensures, cover-fits (lentTo s) (s .args .self) (s .args .party) (short s) (facts t) (take (s .args .name-count) (s .args .names .now)))
+slice-aggregate-lock-called : tie.Need-slice-aggregate-lock-called
+slice-aggregate-lock-called c = let t = c .before .before .before .before .before .before .before in let s = t .before .before .before .before .before in
+    sym (length-take-le (s .args .name-count) (s .args .names .now) (ltb-false _ _ (facts t .own-lent)))
 
 granted-requires : tie.Need-granted-requires
 granted-requires c κs = facts (c .before .before .before .before .before .before .before .before .before .before .before) .party-below
 
 returns-4 : tie.Need-returns-4
-returns-4 c = let l = c .before .before .before in let t = l .before .before .before in let s = t .before .before .before .before .before .before .before .before .before .before .before in
-    enter-granted (lentTo s) (s .args .self) (s .args .party) (s .args .mode) (s .args .names .now) (s .args .name-count) _ _ _ (none-left t)
-    (l .before .cover .ensures) (l .lock-on .ensures) (sym (c .before .before .is-free .ensures) ∙ c .before .if4 .taken) (c .granted .ensures)
+returns-4 c = let l = c .before .before .before .before in let t = l .before .before in let s = t .before .before .before .before .before .before .before .before .before .before .before in
+    enter-granted (lentTo s) (s .args .self) (s .args .party) (s .args .mode) (s .args .names .now) (s .args .name-count) _ _ (none-left t)
+    (l .lock-called .ensures) (sym (c .before .before .is-free .ensures) ∙ c .before .if4 .taken) (c .granted .ensures)
 
 queued-requires : tie.Need-queued-requires
 queued-requires c κs = let t = c .before .before .before .before .before .before .before .before .before .before .before in let s = t .before .before .before .before .before in
     (few-waiting (lentTo s) (s .args .self) (s .args .party) (short s) (facts t), facts t .party-below)
 
 returns-5 : tie.Need-returns-5
-returns-5 c = let l = c .before .before .before in let t = l .before .before .before in let s = t .before .before .before .before .before .before .before .before .before .before .before in
-    enter-waits (lentTo s) (s .args .self) (s .args .party) (s .args .mode) (s .args .names .now) (s .args .name-count) _ _ _ (none-left t)
-    (l .before .cover .ensures) (l .lock-on .ensures) (sym (c .before .before .is-free .ensures) ∙ c .before .if4 .left) (c .queued .ensures)
+returns-5 c = let l = c .before .before .before .before in let t = l .before .before in let s = t .before .before .before .before .before .before .before .before .before .before .before in
+    enter-waits (lentTo s) (s .args .self) (s .args .party) (s .args .mode) (s .args .names .now) (s .args .name-count) _ _ (none-left t)
+    (l .lock-called .ensures) (sym (c .before .before .is-free .ensures) ∙ c .before .if4 .left) (c .queued .ensures)
 
 pub enter-spec : {M : Type 1} → statement M
 enter-spec =
@@ -111,10 +112,10 @@ enter-spec =
     returns-2
     (λ c κs. search needs)
     returns-3
-    slice-aggregate-cover
+    cast-lock-called
+    slice-aggregate-lock-called
     (λ c κs. search needs)
-    cast-lock-on
-    (λ c κs. search needs)
+    (λ c. search needs)
     (λ c κs. search needs)
     granted-requires
     returns-4

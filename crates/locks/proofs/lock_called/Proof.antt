@@ -1,0 +1,31 @@
+-- `lock_called` meets its contract: the interval read is the cover's. Assumes nothing.
+use mathlib.Core.Path.{_≡_, ap, _∙_}
+use native.Mathlib.Omega.{arith}
+use borrow.Author.Needs.{needs}
+use Rattle.intervals.specs.declared.Interval.{Interval}
+use Rattle.intervals.specs.Cover.{closest}
+use Rattle.intervals.proofs.Covers.{closest-least}
+use Rattle.locks.specs.Lent.{spanned, coverIn, lockOn}
+use Rattle.locks.proofs.Tables.{lock-by}
+use Rattle.locks.proofs.lock_called.Statement.{statement}
+use Rattle.locks.proofs.lock_called.Tie as tie
+
+cast-t9 : tie.Need-cast-t9
+cast-t9 c = let k = c .before in let z = k .before .before .before .before .args in
+    omega (arith, k .closest .ensures, closest-least (z .intervals .now) (k .before .call-interval .result) (z .n))
+
+returns : tie.Need-returns
+returns c = let k = c .before in let z = k .before .before .before .before .args in
+    let found : k .closest .result ≡ coverIn (spanned (z .n) (z .intervals .now)) (z .names .now)
+    = k .closest .ensures ∙ ap (λ (i : Interval). closest (z .n) (z .intervals .now) i) (k .before .call-interval .ensures) in
+    lock-by (z .intervals .now) (z .mode) (k .closest .result) _ (c .interval-at .ensures) ∙ ap (lockOn (spanned (z .n) (z .intervals .now)) (z .mode)) found
+
+pub lock-called-spec : {M : Type 1} → statement M
+lock-called-spec =
+    tie.close
+    (tie.spec
+    (λ c κs. search needs)
+    (λ c κs. search needs)
+    (λ c κs. search needs)
+    cast-t9
+    returns)
