@@ -1,35 +1,212 @@
--- DEMAND 3 of a host's own list of calls, from its results alone: `results-serial`, and `results-demand-3` from zeros. Assumes nothing.
+-- DEMAND 3 of a host's own list of calls, from its results alone: `results-serial`, and `results-demand-3` from zeros; and that each run is such a list:
+-- `run-made`. Assumes nothing.
 use mathlib.Core.Path.{_≡_, refl, sym, ap, subst, _∙_}
+use mathlib.Core.Logic.{_⊎_, inl, inr}
 use mathlib.Core.List.{List, [], _∷_, _++_}
-use Prim.Native.Nat.{ℕ}
-use lib.ListN.{length, take, drop, replicate, length-replicate}
-use lib.Seq.{take-length}
+use mathlib.Core.Bool.{Bool, true, false, cond, _||_}
+use mathlib.Core.Option.{Option, none, some}
+use Prim.Native.Nat.{ℕ, _*_, _≤_, _<_}
+use native.Mathlib.Omega.{arith}
+use lib.Dec.{eqb, ltb}
+use lib.ListN.{length, getD, set, take, drop, replicate, length-take, length-set, length-replicate, drop-of-length-le, take-append-drop}
+use lib.Seq.{take-length, take-all, take-take, take-append-seam, length-take-le}
+use borrow.Author.Tests.{eqb-true, ltb-true, ltb-false, lt-ltb, le-ltb}
+use Rattle.lists.specs.Lists.{over}
+use Rattle.lists.specs.Answer.{Answer, done, refused, Check, refusal}
+use Rattle.lists.proofs.Bools.{bool}
+use Rattle.lists.proofs.Refusals.{refused-here}
 use Rattle.hierarchy.specs.Hierarchy.{edgesOf}
-use Rattle.locks.specs.Lent.{Hierarchy, lent}
+use Rattle.interval_laws.proofs.Laws.{taken}
+use Rattle.locks.specs.declared.Mode.{Mode}
+use Rattle.locks.specs.Lent.{Hierarchy, lent, coverIn, tablesShort, lockOn}
 use Rattle.desk.specs.declared.Desk.{Desk}
+use Rattle.desk.specs.declared.EnterAnswer.{EnterAnswer}
+use Rattle.desk.specs.declared.EnterAnswer.the-variants.{Granted, Waits, Refused as EnterRefused}
+use Rattle.desk.specs.declared.PutAnswer.{PutAnswer}
+use Rattle.desk.specs.declared.PutAnswer.the-variants.{Stored, Refused as PutRefused}
+use Rattle.desk.specs.declared.LeaveAnswer.{LeaveAnswer}
+use Rattle.desk.specs.declared.LeaveAnswer.the-variants.{Left, Refused as LeaveRefused}
 use Rattle.desk.specs.Desks.{freshDesk}
-use Rattle.lists.specs.Answer.{Answer}
-use Rattle.runs.specs.Run.{Lending, part, lend, restored, Call, enter, get, put, leave, Step, lentTo, Event, entered, got, stored, left, State}
+use Rattle.desk.specs.Steps.{Admission, granted, waits, EnterResult, GetResult, PutResult, LeaveResult, putOwn, leaveOwn, enterOwn, stepChecks, nodeChecks, valueChecks}
+use Rattle.desk.specs.Steps.{enterUnless, enterStep, getUnless, getStep, putUnless, putStep, leaveUnless, leaveStep}
+use Rattle.desk.specs.Answers.{enterMeaning, getMeaning, putMeaning, leaveMeaning, getCase}
+use Rattle.runs.specs.Run.{Lending, whole, part, lend, restored, Call, enter, get, put, leave, Step, lentTo, Event, entered, got, stored, left, State, start}
 use Rattle.runs.specs.Run.{Moved, afterEnter, afterGet, afterPut, listed, afterLeave, moveCall, move, alsoRan, run}
+use Rattle.runs.proofs.Lends.{restored-lend}
 use Rattle.history.specs.Serial.{Built, Serial, SerialSteps}
-use Rattle.history.specs.Results.{LentOf, Result, enter as entering, get as getting, put as putting, leave as leaving, Made, Meets}
+use Rattle.history.specs.Results.{LentOf, leftIn, Result, enter as entering, get as getting, put as putting, leave as leaving, Made, Meets}
 use Rattle.history.specs.Results.{deskFrom, valuesFrom, toldBy, AllMeet, toldByAll, lastDesk, lastValues}
-use Rattle.history.proofs.Serializable.{serializable}
+use Rattle.history.proofs.Serializable.{built-two-each, serializable}
 
--- how a buffer was lent of a table
+-- BUFFERS. How one was lent of a table
 abbrev lending : List ℕ → List ℕ → Lending
 lending table buffer = part (length buffer) (drop (length table) buffer)
 
-lend-of : (t b : List ℕ) → LentOf t b → lend t (lending t b) ≡ b
+-- the table itself, and anything behind it
+lend-all : (t b : List ℕ) → take (length t) b ≡ t → lend t (lending t b) ≡ b
 unfolding lend
-lend-of [] b e = take-length b
-lend-of (y ∷ t) [] e = refl
-lend-of (y ∷ t) (z ∷ b) e =
-    let head : y ≡ z = cc in
-    let tail : LentOf t b = cc in
-    rw (head, lend-of t b tail) refl
+lend-all t b e =
+    ap (λ (x : List ℕ). take (length b) (x ++ drop (length t) b)) (sym e) ∙ ap (take (length b)) (take-append-drop (length t) b) ∙ take-length b
 
--- the call as a step of a list
+-- or as many numbers
+lend-short : (t b : List ℕ) → length b < length t → length (lend t (lending t b)) < length t
+unfolding lend
+lend-short t b h = omega (arith, length-take (length b) (t ++ drop (length t) b))
+
+-- whatever a step of a run is lent is lent of the table
+lend-lent : (t : List ℕ) (l : Lending) → LentOf t (lend t l)
+lend-lent t l = bool (ltb (length (lend t l)) (length t)) (λ e. inl (ltb-true _ _ e)) (λ e. inr (long l (ltb-false (length (lend t l)) (length t) e)))
+  where
+    long : (x : Lending) → length t ≤ length (lend t x) → take (length t) (lend t x) ≡ t
+    long whole h = unfold lend in take-length t
+    long (part places behind) h =
+        unfold lend in
+        (let k : length t ≤ places = omega (arith, length-take places (t ++ behind)) in
+        take-take (length t) places (t ++ behind) k ∙ take-append-seam t behind)
+
+-- what was lent and not changed leaves the table
+left-same : (t b : List ℕ) → LentOf t b → leftIn t b ≡ t
+left-same t b (inl h) = rw (lt-ltb (length b) (length t) h) refl
+left-same t b (inr e) =
+    bool (ltb (length b) (length t)) (λ s. rw s refl) (λ s. rw s e)
+
+-- what is long enough is restored
+left-restored : (t b : List ℕ) → length t ≤ length b → restored t b ≡ leftIn t b
+unfolding restored over
+left-restored t b h =
+    rw (le-ltb (length b) (length t) h)
+    (ap (λ (x : List ℕ). take (length t) (b ++ x)) (drop-of-length-le t h) ∙ ap (take (length t)) (append-none b))
+  where
+    append-none : (x : List ℕ) → x ++ [] ≡ x
+    append-none [] = refl
+    append-none (y ∷ x) = ap (y ∷_) (append-none x)
+
+-- LENT TOO LITTLE: each step is refused with 1, and leaves all as it was
+module _ (K : Hierarchy) (d : Desk) (party : ℕ) where
+  short-enter : (mode : Mode) (names : List ℕ) (nameCount : ℕ) → tablesShort K ≡ true
+      → enterStep K d party mode names nameCount ≡ record { desk = d; answer = refused 1 }
+  unfolding enterStep
+  short-enter mode names nameCount e =
+      ap (λ (o : Option ℕ). enterUnless o d party (lockOn K mode (coverIn K (take nameCount names)))) (refused-here _ _ (rw e refl))
+
+  short-get : (node : ℕ) (values : List ℕ) → (tablesShort K || ltb (length values) (K .n)) ≡ true → getStep K d party node values ≡ record { desk = d; answer = refused 1 }
+  unfolding getStep
+  short-get node values e = ap (λ (o : Option ℕ). getUnless o d (getD values node 0)) (refused-here _ _ e)
+
+  pub short-put : (node value : ℕ) (values : List ℕ) → (tablesShort K || ltb (length values) (K .n)) ≡ true
+      → putStep K d party node value values ≡ record { desk = d; values = values; answer = refused 1 }
+  unfolding putStep
+  short-put node value values e = ap (λ (o : Option ℕ). putUnless o d node value values) (refused-here _ _ e)
+
+  short-leave : (list : List ℕ) → tablesShort K ≡ true → leaveStep K d party list ≡ record { desk = d; list = list; answer = refused 1 }
+  unfolding leaveStep
+  short-leave list e = ap (λ (o : Option ℕ). leaveUnless o d party list) (refused-here _ _ (rw e refl))
+
+-- A PUT leaves as many values as it was lent
+put-length : (K : Hierarchy) (d : Desk) (party node value : ℕ) (values : List ℕ) → length ((putStep K d party node value values) .values) ≡ length values
+unfolding putStep
+put-length K d party node value values = by (refusal (valueChecks K d party node values (putOwn d party)))
+  where
+    by : (o : Option ℕ) → length ((putUnless o d node value values) .values) ≡ length values
+    by none = length-set values node value
+    by (some k) = refl
+
+-- TWO HIERARCHIES AS LENT that no step tells apart: they are one, or each is too short
+abbrev Alike : Hierarchy → Hierarchy → Type 0
+Alike K K′ = (K ≡ K′) ⊎ ((tablesShort K ≡ true) × (tablesShort K′ ≡ true))
+
+or-second : (a b : Bool) → b ≡ true → (a || b) ≡ true
+or-second true b e = refl
+or-second false b e = e
+
+module _ (H : Hierarchy) (two-each : length (H .intervals) ≡ 2 * H .n) (all-edges : length (edgesOf (H .edges) (H .edgeCount)) ≡ 2 * H .edgeCount) where
+  abbrev es : List ℕ
+  es = edgesOf (H .edges) (H .edgeCount)
+
+  tables-alike : (i e : List ℕ) → LentOf (H .intervals) i → LentOf es e
+      → Alike (lent (H .n) i e (H .edgeCount)) (lent (H .n) (lend (H .intervals) (lending (H .intervals) i)) (lend es (lending es e)) (H .edgeCount))
+  tables-alike i e (inl h) q =
+      let few = lend-short (H .intervals) i h in
+      let a : ltb (length i) (2 * H .n) ≡ true = lt-ltb (length i) (2 * H .n) (omega (arith, h, two-each)) in
+      let b : ltb (length (lend (H .intervals) (lending (H .intervals) i))) (2 * H .n) ≡ true = lt-ltb _ (2 * H .n) (omega (arith, few, two-each)) in
+      inr (rw a refl, rw b refl)
+  tables-alike i e (inr p) (inl h) =
+      let few = lend-short es e h in
+      let a : ltb (length e) (2 * H .edgeCount) ≡ true = lt-ltb (length e) (2 * H .edgeCount) (omega (arith, h, all-edges)) in
+      let b : ltb (length (lend es (lending es e))) (2 * H .edgeCount) ≡ true = lt-ltb _ (2 * H .edgeCount) (omega (arith, few, all-edges)) in
+      inr (or-second (ltb (length i) (2 * H .n)) _ a, or-second (ltb (length (lend (H .intervals) (lending (H .intervals) i))) (2 * H .n)) _ b)
+  tables-alike i e (inr p) (inr q) = inl (rw (lend-all (H .intervals) i p, lend-all es e q) refl)
+
+module _ (K K′ : Hierarchy) (alike : Alike K K′) (d : Desk) (party : ℕ) where
+  enter-alike : (mode : Mode) (names : List ℕ) (nameCount : ℕ) → enterStep K′ d party mode names nameCount ≡ enterStep K d party mode names nameCount
+  enter-alike mode names nameCount = by alike
+    where
+      by : Alike K K′ → enterStep K′ d party mode names nameCount ≡ enterStep K d party mode names nameCount
+      by (inl e) = ap (λ (X : Hierarchy). enterStep X d party mode names nameCount) (sym e)
+      by (inr (a, b)) = short-enter K′ d party mode names nameCount b ∙ sym (short-enter K d party mode names nameCount a)
+
+  leave-alike : (list : List ℕ) → leaveStep K′ d party list ≡ leaveStep K d party list
+  leave-alike list = by alike
+    where
+      by : Alike K K′ → leaveStep K′ d party list ≡ leaveStep K d party list
+      by (inl e) = ap (λ (X : Hierarchy). leaveStep X d party list) (sym e)
+      by (inr (a, b)) = short-leave K′ d party list b ∙ sym (short-leave K d party list a)
+
+  -- and neither tells get and put what the values are where they are too short
+  module _ (values buffer : List ℕ) (lent-of : LentOf values buffer) (sized : length values ≡ K .n) (same-n : K′ .n ≡ K .n) where
+    abbrev buffer′ : List ℕ
+    buffer′ = lend values (lending values buffer)
+
+    -- both are refused with 1, or they are one
+    abbrev Either : Type 0
+    Either = (((tablesShort K || ltb (length buffer) (K .n)) ≡ true) × ((tablesShort K′ || ltb (length buffer′) (K′ .n)) ≡ true))
+        ⊎ ((K ≡ K′) × (buffer′ ≡ buffer) × (length values ≤ length buffer))
+
+    either-by : Alike K K′ → LentOf values buffer → Either
+    either-by (inr (a, b)) q = inl (rw a refl, rw b refl)
+    either-by (inl e) (inl h) =
+        let few = lend-short values buffer h in
+        let a : ltb (length buffer) (K .n) ≡ true = lt-ltb (length buffer) (K .n) (omega (arith, h, sized)) in
+        let b : ltb (length buffer′) (K′ .n) ≡ true = lt-ltb (length buffer′) (K′ .n) (omega (arith, few, sized, same-n)) in
+        inl (or-second (tablesShort K) _ a, or-second (tablesShort K′) _ b)
+    either-by (inl e) (inr q) = inr (e, lend-all values buffer q, omega (arith, ap length q, length-take (length values) buffer))
+
+    get-by : (node : ℕ) → Either → getStep K′ d party node buffer′ ≡ getStep K d party node buffer
+    get-by node (inl (a, b)) = short-get K′ d party node buffer′ b ∙ sym (short-get K d party node buffer a)
+    get-by node (inr (e, f, h)) = ap (λ (X : Hierarchy). getStep X d party node buffer′) (sym e) ∙ ap (getStep K d party node) f
+
+    get-alike : (node : ℕ) → getStep K′ d party node buffer′ ≡ getStep K d party node buffer
+    get-alike node = get-by node (either-by alike lent-of)
+
+    -- a put hands back the same desk and answer, and leaves the same values
+    abbrev PutAlike : ℕ → ℕ → Type 0
+    PutAlike node value =
+        let s = putStep K d party node value buffer in
+        let s′ = putStep K′ d party node value buffer′ in
+        (s′ .desk ≡ s .desk) × (s′ .answer ≡ s .answer) × (restored values (s′ .values) ≡ leftIn values (s .values))
+
+    put-by : (node value : ℕ) → Either → PutAlike node value
+    put-by node value (inl (a, b)) =
+        let p = short-put K d party node value buffer a in
+        let p′ = short-put K′ d party node value buffer′ b in (
+          ap (λ (x : PutResult). x .desk) (p′ ∙ sym (ap (λ (y : PutResult). record { desk = y .desk; values = buffer′; answer = y .answer }) p)),
+          ap (λ (x : PutResult). x .answer) p′ ∙ sym (ap (λ (x : PutResult). x .answer) p),
+          ap (λ (x : PutResult). restored values (x .values)) p′ ∙ restored-lend values (lending values buffer) ∙ sym (left-same values buffer lent-of)
+              ∙ sym (ap (λ (x : PutResult). leftIn values (x .values)) p),
+        )
+    put-by node value (inr (e, f, h)) =
+        let same : putStep K′ d party node value buffer′ ≡ putStep K d party node value buffer
+        = ap (λ (X : Hierarchy). putStep X d party node value buffer′) (sym e) ∙ ap (putStep K d party node value) f in (
+          ap (λ (x : PutResult). x .desk) same,
+          ap (λ (x : PutResult). x .answer) same,
+          ap (λ (x : PutResult). restored values (x .values)) same
+              ∙ left-restored values ((putStep K d party node value buffer) .values) (omega (arith, h, put-length K d party node value buffer)),
+        )
+
+    put-alike : (node value : ℕ) → PutAlike node value
+    put-alike node value = put-by node value (either-by alike lent-of)
+
+-- A CALL as a step of a list
 callFor : List ℕ → Result → Call
 callFor values (entering party mode names nameCount r) = enter party mode names nameCount
 callFor values (getting party node buffer r) = get party node (lending values buffer)
@@ -44,7 +221,7 @@ stepFor H values m =
       call = callFor values (m .result);
     }
 
--- the calls of a list as its steps, each lent what its call was lent
+-- the calls of a list as its steps
 pub stepsFor : Hierarchy → List ℕ → List Made → List Step
 stepsFor H values [] = []
 stepsFor H values (m ∷ ms) = stepFor H values m ∷ stepsFor H (valuesFrom values (m .result)) ms
@@ -61,33 +238,166 @@ left-alike : (party : ℕ) {list list′ : List ℕ} {a a′ : Answer ℕ} → l
 left-alike party l e = rw (l, e) refl
 
 -- one call that meets its contract is that step
-call-moves : (H K : Hierarchy) (d : Desk) (values : List ℕ) (r : Result) → Meets K d values r
-    → moveCall K (callFor values r) (between H d values) ≡ record { state = between H (deskFrom r) (valuesFrom values r); event = toldBy r }
-unfolding moveCall callFor afterEnter afterGet afterPut afterLeave
-call-moves H K d values (entering party mode names nameCount r) (e, a) = moved-alike H (sym e) refl (sym (ap (entered party) a))
-call-moves H K d values (getting party node buffer r) (l, (e, a, c)) =
-    rw (lend-of values buffer l) (moved-alike H (sym e) refl (sym (ap (got party node) a)))
-call-moves H K d values (putting party node value buffer r after) (l, (e, a, v)) =
-    rw (lend-of values buffer l) (moved-alike H (sym e) (sym (ap (restored values) v)) (sym (ap (stored party node value) a)))
-call-moves H K d values (leaving party list r after) (e, a, v) = moved-alike H (sym e) refl (left-alike party (sym v) (sym a))
+module _ (H K K′ : Hierarchy) (alike : Alike K K′) (d : Desk) (values : List ℕ) (sized : length values ≡ K .n) (same-n : K′ .n ≡ K .n) where
+  call-moves : (r : Result) → Meets K d values r
+      → moveCall K′ (callFor values r) (between H d values) ≡ record { state = between H (deskFrom r) (valuesFrom values r); event = toldBy r }
+  unfolding moveCall callFor afterEnter afterGet afterPut afterLeave
+  call-moves (entering party mode names nameCount r) (e, a) =
+      ap (afterEnter party (between H d values)) (enter-alike K K′ alike d party mode names nameCount)
+      ∙ moved-alike H (sym e) refl (sym (ap (entered party) a))
+  call-moves (getting party node buffer r) (l, (e, a, c)) =
+      ap (afterGet party node (between H d values)) (get-alike K K′ alike d party values buffer l sized same-n node)
+      ∙ moved-alike H (sym e) refl (sym (ap (got party node) a))
+  call-moves (putting party node value buffer r after) (l, (e, a, v)) =
+      let p = put-alike K K′ alike d party values buffer l sized same-n node value in
+      moved-alike H (p .0 ∙ sym e) (p .2 ∙ sym (ap (leftIn values) v)) (ap (stored party node value) (p .1 ∙ sym a))
+  call-moves (leaving party list r after) (e, a, v) =
+      ap (afterLeave party (between H d values)) (leave-alike K K′ alike d party list)
+      ∙ moved-alike H (sym e) refl (left-alike party (sym v) (sym a))
+
+-- the values stay n
+values-sized : (values : List ℕ) (r : Result) → length (valuesFrom values r) ≡ length values
+values-sized values (entering party mode names nameCount r) = refl
+values-sized values (getting party node buffer r) = refl
+values-sized values (putting party node value buffer r after) =
+    bool (ltb (length after) (length values)) (λ e. rw e refl) (λ e. rw e (length-take-le (length values) after (ltb-false (length after) (length values) e)))
+values-sized values (leaving party list r after) = refl
 
 -- the calls of a list are those steps, one after the other
-pub results-run : (H : Hierarchy) (ms : List Made) (d : Desk) (values : List ℕ) → AllMeet H d values ms
-    → run (stepsFor H values ms) (between H d values) ≡ record { state = between H (lastDesk d ms) (lastValues values ms); events = toldByAll ms }
-unfolding AllMeet stepsFor stepFor run alsoRan move lentTo lastDesk lastValues
-results-run H [] d values k = refl
-results-run H (m ∷ ms) d values (i, e, c, k) =
-    rw (lend-of (H .intervals) (m .intervals) i, lend-of (edgesOf (H .edges) (H .edgeCount)) (m .edges) e)
-    (rw (call-moves H (lent (H .n) (m .intervals) (m .edges) (H .edgeCount)) d values (m .result) c, results-run H ms (deskFrom (m .result)) (valuesFrom values (m .result)) k)
-    refl)
+module _ (H : Hierarchy) (two-each : length (H .intervals) ≡ 2 * H .n) (all-edges : length (edgesOf (H .edges) (H .edgeCount)) ≡ 2 * H .edgeCount) where
+  calls-run : (ms : List Made) (d : Desk) (values : List ℕ) → length values ≡ H .n → AllMeet H d values ms
+      → run (stepsFor H values ms) (between H d values) ≡ record { state = between H (lastDesk d ms) (lastValues values ms); events = toldByAll ms }
+  unfolding AllMeet stepsFor stepFor run alsoRan move lentTo lastDesk lastValues
+  calls-run [] d values sized k = refl
+  calls-run (m ∷ ms) d values sized (i, e, c, k) =
+      let moved = call-moves H (lent (H .n) (m .intervals) (m .edges) (H .edgeCount)) _ (tables-alike H two-each all-edges (m .intervals) (m .edges) i e) d values sized refl (m .result) c in
+      rw (moved, calls-run ms (deskFrom (m .result)) (valuesFrom values (m .result)) (values-sized values (m .result) ∙ sized) k) refl
+
+built-edges : (H : Hierarchy) → Built H → length (edgesOf (H .edges) (H .edgeCount)) ≡ 2 * H .edgeCount
+built-edges H b = length-take-le (2 * H .edgeCount) (H .edges) (taken (H .n) (H .edges) (H .edgeCount) (b .places) (b .scratch) (b .took) .edges-long)
+
+pub results-run : (H : Hierarchy) → Built H → (values : List ℕ) → length values ≡ H .n → (made : List Made) → AllMeet H freshDesk values made
+    → run (stepsFor H values made) (start H values) ≡ record { state = between H (lastDesk freshDesk made) (lastValues values made); events = toldByAll made }
+results-run H b values sized made met = calls-run H (built-two-each H b) (built-edges H b) made freshDesk values sized met
 
 -- THE THEOREM: over one built hierarchy, from a fresh desk and any n values, whatever calls were made, where each result meets the contract of its
 -- method: these very results are what whole visits, performed in order of granting, leave and find
 pub results-serial : (H : Hierarchy) → Built H → (values : List ℕ) → length values ≡ H .n → (made : List Made) → AllMeet H freshDesk values made
     → SerialSteps values (toldByAll made) (lastValues values made)
-results-serial H b values sized made met = subst (Serial values) (results-run H made freshDesk values met) (serializable H b values sized (stepsFor H values made))
+results-serial H b values sized made met = subst (Serial values) (results-run H b values sized made met) (serializable H b values sized (stepsFor H values made))
 
 -- demand 3: from n values of zero
 pub results-demand-3 : (H : Hierarchy) → Built H → (made : List Made) → AllMeet H freshDesk (replicate (H .n) 0) made
     → SerialSteps (replicate (H .n) 0) (toldByAll made) (lastValues (replicate (H .n) 0) made)
 results-demand-3 H b made met = results-serial H b (replicate (H .n) 0) (length-replicate (H .n) 0) made met
+
+-- EACH RUN IS SUCH A LIST. Answers as the methods give them, and what these mean
+enterAnswer : Answer Admission → EnterAnswer
+enterAnswer (done (granted cover)) = Granted cover
+enterAnswer (done waits) = Waits
+enterAnswer (refused k) = EnterRefused k
+
+enter-means : (a : Answer Admission) → enterMeaning (enterAnswer a) ≡ a
+unfolding enterAnswer
+enter-means (done (granted cover)) = refl
+enter-means (done waits) = refl
+enter-means (refused k) = refl
+
+get-means : (a : Answer ℕ) → getMeaning (getCase a) ≡ a
+get-means (done value) = refl
+get-means (refused k) = bool (eqb k 14) (λ e. rw (e, eqb-true k 14 e) refl) (λ e. rw e refl)
+
+putAnswer : Answer (Unit {0}) → PutAnswer
+putAnswer (done _) = Stored
+putAnswer (refused k) = PutRefused k
+
+put-means : (a : Answer (Unit {0})) → putMeaning (putAnswer a) ≡ a
+unfolding putAnswer
+put-means (done _) = refl
+put-means (refused k) = refl
+
+leaveAnswer : Answer ℕ → LeaveAnswer
+leaveAnswer (done k) = Left k
+leaveAnswer (refused k) = LeaveRefused k
+
+leave-means : (a : Answer ℕ) → leaveMeaning (leaveAnswer a) ≡ a
+unfolding leaveAnswer
+leave-means (done k) = refl
+leave-means (refused k) = refl
+
+-- the result of a step of a run
+resultFor : Hierarchy → Desk → List ℕ → Call → Result
+resultFor K d values (enter party mode names nameCount) =
+    let s = enterStep K d party mode names nameCount in entering party mode names nameCount (record { desk = s .desk; answer = enterAnswer (s .answer) })
+resultFor K d values (get party node l) =
+    let s = getStep K d party node (lend values l) in getting party node (lend values l) (record { desk = s .desk; answer = getCase (s .answer) })
+resultFor K d values (put party node value l) =
+    let s = putStep K d party node value (lend values l) in
+    putting party node value (lend values l) (record { desk = s .desk; answer = putAnswer (s .answer) }) (s .values)
+resultFor K d values (leave party list) =
+    let s = leaveStep K d party list in leaving party list (record { desk = s .desk; answer = leaveAnswer (s .answer) }) (s .list)
+
+-- it meets the contract,
+result-meets : (K : Hierarchy) (d : Desk) (values : List ℕ) (c : Call) → Meets K d values (resultFor K d values c)
+unfolding resultFor
+result-meets K d values (enter party mode names nameCount) = (refl, enter-means _)
+result-meets K d values (get party node l) = (lend-lent values l, (refl, get-means _, refl))
+result-meets K d values (put party node value l) = (lend-lent values l, (refl, put-means _, refl))
+result-meets K d values (leave party list) = (refl, leave-means _, refl)
+
+-- and tells and leaves what the step does
+result-moves : (H K : Hierarchy) (d : Desk) (values : List ℕ) → length values ≡ K .n → (c : Call) → let r = resultFor K d values c in
+    moveCall K c (between H d values) ≡ record { state = between H (deskFrom r) (valuesFrom values r); event = toldBy r }
+unfolding resultFor moveCall afterEnter afterGet afterPut afterLeave
+result-moves H K d values sized (enter party mode names nameCount) = moved-alike H refl refl (ap (entered party) (sym (enter-means _)))
+result-moves H K d values sized (get party node l) = moved-alike H refl refl (ap (got party node) (sym (get-means _)))
+result-moves H K d values sized (put party node value l) =
+    moved-alike H refl (left (ltb (length (lend values l)) (length values)) refl) (ap (stored party node value) (sym (put-means _)))
+  where
+    left : (b : Bool) → ltb (length (lend values l)) (length values) ≡ b
+        → let s = putStep K d party node value (lend values l) in restored values (s .values) ≡ leftIn values (s .values)
+    left true e =
+        let h : length (lend values l) < length values = ltb-true (length (lend values l)) (length values) e in
+        let t : ltb (length (lend values l)) (K .n) ≡ true = lt-ltb (length (lend values l)) (K .n) (omega (arith, h, sized)) in
+        let p = short-put K d party node value (lend values l) (or-second (tablesShort K) (ltb (length (lend values l)) (K .n)) t) in
+        ap (λ (x : PutResult). restored values (x .values)) p ∙ restored-lend values l ∙ sym (left-same values (lend values l) (inl h))
+        ∙ sym (ap (λ (x : PutResult). leftIn values (x .values)) p)
+    left false e =
+        left-restored values ((putStep K d party node value (lend values l)) .values)
+        (omega (arith, ltb-false (length (lend values l)) (length values) e, put-length K d party node value (lend values l)))
+result-moves H K d values sized (leave party list) = moved-alike H refl refl (left-alike party refl (sym (leave-means _)))
+
+madeFor : Hierarchy → Desk → List ℕ → Step → Made
+madeFor H d values x =
+    record {
+      intervals = lend (H .intervals) (x .intervals);
+      edges = lend (edgesOf (H .edges) (H .edgeCount)) (x .edges);
+      result = resultFor (lentTo x H) d values (x .call);
+    }
+
+-- the steps of a run as calls that were made
+pub madeBy : Hierarchy → Desk → List ℕ → List Step → List Made
+madeBy H d values [] = []
+madeBy H d values (x ∷ xs) = let m = madeFor H d values x in m ∷ madeBy H (deskFrom (m .result)) (valuesFrom values (m .result)) xs
+
+made-meets : (H : Hierarchy) (xs : List Step) (d : Desk) (values : List ℕ) → AllMeet H d values (madeBy H d values xs)
+unfolding AllMeet madeBy madeFor lentTo
+made-meets H [] d values = tt
+made-meets H (x ∷ xs) d values =
+    (lend-lent (H .intervals) (x .intervals), lend-lent (edgesOf (H .edges) (H .edgeCount)) (x .edges), result-meets _ d values (x .call), made-meets H xs _ _)
+
+made-runs : (H : Hierarchy) (xs : List Step) (d : Desk) (values : List ℕ) → length values ≡ H .n
+    → run xs (between H d values)
+    ≡ record { state = between H (lastDesk d (madeBy H d values xs)) (lastValues values (madeBy H d values xs)); events = toldByAll (madeBy H d values xs) }
+unfolding madeBy madeFor run alsoRan move lentTo lastDesk lastValues
+made-runs H [] d values sized = refl
+made-runs H (x ∷ xs) d values sized =
+    let r = resultFor (lentTo x H) d values (x .call) in
+    rw (result-moves H (lentTo x H) d values sized (x .call), made-runs H xs (deskFrom r) (valuesFrom values r) (values-sized values r ∙ sized)) refl
+
+-- so the claims of demand 3 are about at least the lists that a run is about: each run is what some list of calls gives, whose results meet the contracts
+pub run-made : (H : Hierarchy) (values : List ℕ) → length values ≡ H .n → (steps : List Step)
+    → (made : List Made) × AllMeet H freshDesk values made
+    × (run steps (start H values) ≡ record { state = between H (lastDesk freshDesk made) (lastValues values made); events = toldByAll made })
+run-made H values sized steps =
+    (madeBy H freshDesk values steps, made-meets H steps freshDesk values, made-runs H steps freshDesk values sized)

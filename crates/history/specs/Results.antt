@@ -1,7 +1,10 @@
 -- A host's own list of calls, each with its result: the struct that the method handed back, and the buffer after. Assumes nothing.
 use mathlib.Core.Path.{_≡_}
+use mathlib.Core.Logic.{_⊎_}
 use mathlib.Core.List.{List, [], _∷_, map}
-use Prim.Native.Nat.{ℕ}
+use mathlib.Core.Bool.{cond}
+use Prim.Native.Nat.{ℕ, _<_}
+use lib.Dec.{ltb}
 use lib.ListN.{length, take}
 use Rattle.hierarchy.specs.Hierarchy.{edgesOf}
 use Rattle.locks.specs.declared.Mode.{Mode}
@@ -13,11 +16,15 @@ use Rattle.desk.specs.declared.PutStep.{PutStep}
 use Rattle.desk.specs.declared.LeaveStep.{LeaveStep}
 use Rattle.desk.specs.Steps.{enterStep, getStep, putStep, leaveStep}
 use Rattle.desk.specs.Answers.{enterMeaning, getMeaning, putMeaning, leaveMeaning, Enters, Gets, Puts, Leaves}
-use Rattle.runs.specs.Run.{restored, Event, entered, got, stored, left, listed}
+use Rattle.runs.specs.Run.{Event, entered, got, stored, left, listed}
 
--- a buffer is lent of a table: it has the table's numbers as far as both go, so it may be shorter, or have anything behind them
+-- a buffer is lent of a table: the table, with anything behind it; or it is too short, whatever it holds
 abbrev pub LentOf : List ℕ → List ℕ → Type 0
-LentOf table buffer = take (length buffer) table ≡ take (length table) buffer
+LentOf table buffer = (length buffer < length table) ⊎ (take (length table) buffer ≡ table)
+
+-- the table after the buffer is left: the buffer's front. What is too short for the table is left as it was lent (`short-put`), and so is the table
+abbrev pub leftIn : List ℕ → List ℕ → List ℕ
+leftIn table buffer = cond (ltb (length buffer) (length table)) table (take (length table) buffer)
 
 -- which step it was, what it was given besides the hierarchy and the desk, and its result
 pub data Result : Type 0 where
@@ -50,7 +57,7 @@ deskFrom (leave party list r after) = r .desk
 abbrev pub valuesFrom : List ℕ → Result → List ℕ
 valuesFrom values (enter party mode names nameCount r) = values
 valuesFrom values (get party node buffer r) = values
-valuesFrom values (put party node value buffer r after) = restored values after
+valuesFrom values (put party node value buffer r after) = leftIn values after
 valuesFrom values (leave party list r after) = values
 
 -- what the book is told of it: the answer that the struct has, and for leave the list that stands in the buffer

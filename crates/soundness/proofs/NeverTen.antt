@@ -268,16 +268,16 @@ run-sound H b values steps =
     ∙ run-fine steps (start H values) (start-fine H values b) .0 .sound
 
 -- OF A HOST'S OWN CALLS, whose results meet the methods' contracts: none was refused with 10,
-pub results-never-ten : (H : Hierarchy) → Built H → (values : List ℕ) (made : List Made) → AllMeet H freshDesk values made
+pub results-never-ten : (H : Hierarchy) → Built H → (values : List ℕ) → length values ≡ H .n → (made : List Made) → AllMeet H freshDesk values made
     → any (refusedWith 10) (toldByAll made) ≡ false
-results-never-ten H b values made met =
-    sym (ap (λ (r : Ran). any (refusedWith 10) (r .events)) (results-run H made freshDesk values met)) ∙ never-ten H b values (stepsFor H values made)
+results-never-ten H b values sized made met =
+    sym (ap (λ (r : Ran). any (refusedWith 10) (r .events)) (results-run H b values sized made met)) ∙ never-ten H b values (stepsFor H values made)
 
 -- and the desk that the last one handed back is sound
-pub results-sound : (H : Hierarchy) → Built H → (values : List ℕ) (made : List Made) → AllMeet H freshDesk values made
+pub results-sound : (H : Hierarchy) → Built H → (values : List ℕ) → length values ≡ H .n → (made : List Made) → AllMeet H freshDesk values made
     → soundDesk H (lastDesk freshDesk made) ≡ true
-results-sound H b values made met =
-    sym (ap (λ (r : Ran). soundDesk H (r .state .desk)) (results-run H made freshDesk values met)) ∙ run-sound H b values (stepsFor H values made)
+results-sound H b values sized made met =
+    sym (ap (λ (r : Ran). soundDesk H (r .state .desk)) (results-run H b values sized made met)) ∙ run-sound H b values (stepsFor H values made)
 
 -- THE SAME with the hierarchy beside the state
 pub never-ten-over : (H : Hierarchy) → Built H → (values : List ℕ) (steps : List Step) → any (refusedWith 10) ((runOver H steps (startOver values)) .events) ≡ false

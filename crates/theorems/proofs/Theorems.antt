@@ -1,7 +1,7 @@
--- THE THEOREMS OF THE DESK, in full, in the order of the customer's demands. Each is proved by citing the one that a crate below proves, so that none of
--- them can be weakened there and still fit. What the terms mean is in the definitions, crates/*/specs; what each function does is its contract, in
--- crates/*/src, where demand 1 is carried: no function has a `requires`, and each result is equated with a definition. Assumes nothing.
-use mathlib.Core.Path.{_≡_}
+-- THE THEOREMS OF THE DESK, in full, in the order of the customer's demands. Each is proved by citing the one that a crate below proves: with a hypothesis
+-- more or a clause less there it would no longer fit. What the terms mean is in the definitions, crates/*/specs; what each function does is its contract, in
+-- crates/*/src, where demand 1 is carried: no public function has a `requires`, and each result is equated with a definition. Assumes nothing.
+use mathlib.Core.Path.{_≡_, refl, sym, ap}
 use mathlib.Core.Logic.{_⊎_}
 use mathlib.Core.List.{List, [], _∷_, _++_, map}
 use mathlib.Core.Bool.{true, false, cond}
@@ -20,16 +20,17 @@ use Rattle.intervals.specs.Cover.{lowAt, highAt, intervalAt, callInterval, cont
 use Rattle.blocks.specs.File.{wholeBlocks, readFile, writeFile}
 use Rattle.locks.specs.declared.Mode.{Mode}
 use Rattle.locks.specs.declared.Stage.the-variants.{Waiting, Holding}
-use Rattle.locks.specs.Lent.{Hierarchy, lent, coverIn, lockOn}
+use Rattle.locks.specs.Lent.{Hierarchy, lent, lowIn, highIn, coverIn, lockOn}
 use Rattle.desk.specs.declared.Desk.{Desk}
 use Rattle.desk.specs.Desks.{freshDesk, stageAt}
 use Rattle.desk.specs.Sound.{soundDesk}
 use Rattle.desk.specs.Steps.{granted, enterRefusal, enterStep, getStep, putStep, leaveStep}
-use Rattle.runs.specs.Run.{Step, Event, start, run}
+use Rattle.runs.specs.Run.{Step, Event, start, Ran, run}
 use Rattle.runs.specs.Over.{startOver, runOver}
 use Rattle.history.specs.History.{history, grantedIn, bareEvent, opsIn, countedFrom, serialFinds, serialLeaves}
 use Rattle.history.specs.Serial.{Built, SerialSteps}
-use Rattle.history.specs.Results.{Made, AllMeet, toldByAll, lastDesk, lastValues}
+use Rattle.desk.specs.Answers.{Enters, Gets, Puts, Leaves}
+use Rattle.history.specs.Results.{Result, enter, get, put, leave, Made, Meets, deskFrom, valuesFrom, AllMeet, toldByAll, lastDesk, lastValues}
 use Rattle.soundness.specs.Refused.{refusedWith}
 use Rattle.file_laws.specs.Files.{eventsOf}
 use Rattle.replay.specs.Replay.{StepAnswer, waits, stored, left, FileRun, granted as admitted, refused as denied, recordList, stepRecords, sizeOf, runFile}
@@ -48,6 +49,13 @@ use Rattle.soundness.proofs.Laws as unchanged
 use Rattle.soundness.proofs.Kept as kept
 use Rattle.soundness.proofs.NeverTen as never
 use Rattle.soundness.proofs.Covers as entered
+use Rattle.opening.specs.declared.OpenAnswer.the-variants.{Opened}
+use Rattle.opening.specs.Opening.{openFile}
+use Rattle.texts.specs.Lines.{listing as listingOf}
+use Rattle.lines.specs.Pieces.{writtenOf, inPieces, partsIn}
+use Rattle.opening.proofs.Opens as opens
+use Rattle.lines.proofs.Fits as fits
+use Rattle.lines.proofs.Parts as parts
 use Rattle.examples.proofs.Starred as computed
 
 -- DEMAND 1, as far as it is not a contract: a refusal changes nothing. Of enter, the desk
@@ -75,6 +83,7 @@ refused-leave = unchanged.refused-leave
 
 -- DEMAND 2: INTERVALS of every legal hierarchy, of n nodes with these edges
 module _ (n : ℕ) (table : List ℕ) (edgeCount : ℕ) (legal : Legal n table edgeCount) where
+  -- the edges that count
   abbrev es : List ℕ
   es = edgesOf table edgeCount
 
@@ -156,7 +165,15 @@ built-cover : (n : ℕ) (table : List ℕ) (edgeCount : ℕ) → Legal n table e
 built-cover n table edgeCount legal name names below =
     let c = cover-laws.built-cover n table edgeCount legal name names below in (c .below, c .around, c .narrowest, c .lowest)
 
--- and over any table whatever no other node is the cover
+-- over any table whatever, where the interval of some node contains the call's, the definition gives the cover,
+cover-some : (n : ℕ) (table : List ℕ) (call : Interval) (r : ℕ) → r < n → contains (intervalAt table r) call ≡ true → Cover n table call (closest n table call)
+cover-some n table call r h e = let c = closest-laws.closest-cover table call n r h e in (c .below, c .around, c .narrowest, c .lowest)
+
+-- where none does it gives 0,
+cover-none : (n : ℕ) (table : List ℕ) (call : Interval) → ((r : ℕ) → r < n → contains (intervalAt table r) call ≡ false) → closest n table call ≡ 0
+cover-none = cover-laws.closest-none
+
+-- and no other node is the cover
 cover-only : (n : ℕ) (table : List ℕ) (call : Interval) (c : ℕ) → Cover n table call c → c ≡ closest n table call
 cover-only n table call c k = cover-laws.closest-only n table call c (record { below = k .0; around = k .1; narrowest = k .2; lowest = k .3 })
 
@@ -175,7 +192,19 @@ granted-cover : (H : Hierarchy) (d : Desk) (party : ℕ) (mode : Mode) (names : 
 granted-cover H d party mode names nameCount c e =
     let k = entered.granted-cover H d party mode names nameCount c e in (k .below, k .around, k .narrowest, k .lowest)
 
--- and a party that enter did not refuse holds or waits for the lock on it
+-- and so is the one in the lock of every enter that is not refused, granted or made to wait,
+enter-cover : (H : Hierarchy) (d : Desk) (party : ℕ) (mode : Mode) (names : List ℕ) (nameCount : ℕ) → enterRefusal H d party names nameCount ≡ none
+    → Cover (H .n) (H .intervals) (callInterval (H .intervals) (take nameCount names)) (coverIn H (take nameCount names))
+enter-cover H d party mode names nameCount fine =
+    let k = entered.enter-cover H d party mode names nameCount fine in (k .below, k .around, k .narrowest, k .lowest)
+
+-- which has the node's own interval where the call names one node, however often;
+enter-one : (H : Hierarchy) (d : Desk) (party : ℕ) (mode : Mode) (names : List ℕ) (nameCount : ℕ) → enterRefusal H d party names nameCount ≡ none
+    → (x : ℕ) → ((r : ℕ) → In r (take nameCount names) → r ≡ x)
+    → let lock = lockOn H mode (coverIn H (take nameCount names)) in (lock .low ≡ lowIn H x) × (lock .high ≡ highIn H x)
+enter-one = entered.enter-one
+
+-- its party then holds or waits for that lock
 enter-stage : (H : Hierarchy) (d : Desk) (party : ℕ) (mode : Mode) (names : List ℕ) (nameCount : ℕ) → enterRefusal H d party names nameCount ≡ none → length (d .entries) ≡ 32
     → let lock = lockOn H mode (coverIn H (take nameCount names)) in
     let stage = stageAt ((enterStep H d party mode names nameCount) .desk) party in (stage ≡ Holding lock) ⊎ (stage ≡ Waiting lock)
@@ -199,6 +228,30 @@ read-then-write : (file room : List ℕ) (n : ℕ) (rest room′ : List ℕ) →
     (record { answer = done (wholeBlocks file); room = over file room′ })
 read-then-write = file-forms.read-then-write
 
+-- the same straight from the room that reading left
+read-then-write-room : (file room : List ℕ) (n : ℕ) (room′ : List ℕ) → Below 256 file → readFile file room .answer ≡ done n
+    → writeFile (readFile file room .room) n room′
+    ≡ cond (ltb (length room′) (length file))
+    (record { answer = refused 1; room = room′ })
+    (record { answer = done (wholeBlocks file); room = over file room′ })
+read-then-write-room = file-forms.read-then-write-room
+
+-- DEMAND 2: THE LISTING. It fits the room that listing asks for,
+listing-most : (file : List ℕ) → Below 256 file → length (listingOf (runFile file)) ≤ 635040
+listing-most = fits.listing-most
+
+-- and what the program writes of an opened file, 100 records at a time into 16,000 bytes, is one behind the other the listing, to the byte
+program-listing : (file records edges places text : List ℕ) (n count total : ℕ) → 63488 ≤ length records → 7936 ≤ length edges → 512 ≤ length places → 16000 ≤ length text
+    → let o = openFile file records edges places in o .answer ≡ done (record { n = n; edges = count; records = total }) → Below 256 (o .records)
+    → inPieces (writtenOf (lent n (take (2 * n) (o .places)) (take (2 * count) (o .edges)) count) (record { desk = freshDesk; number = 1; at = 0 }) (replicate n 0) text)
+    (partsIn (take (16 * total) (o .records)))
+    ≡ listingOf (runFile file)
+program-listing file records edges places text n count total l₁ l₂ l₃ long e bytes =
+    let o = openFile file records edges places in
+    parts.program-listing file n count total (o .records) (o .edges) (o .places) text
+    (opens.opened-ready file records edges places (Opened n count total) l₁ l₂ l₃ (record { answer = sym e; records-after = refl; edges-after = refl; places-after = refl }) n count total refl)
+    bytes long
+
 -- DEMAND 3. What it claims of events, from these values at the start to those after: the values after are those after performing the book's row; the value
 -- answered by each get is what that same get finds; no get or put that was not refused is missing from the row; and the row is in the order of granting
 abbrev Claims : List ℕ → List (Event ℕ) → List ℕ → Type 0
@@ -206,28 +259,85 @@ Claims values events after =
     let row = history (map bareEvent events) in
     (after ≡ serialLeaves values row) × (history events ≡ serialFinds values row) × (opsIn row ≡ countedFrom 0 events) × (map (λ v. v .party) row ≡ grantedIn events)
 
+-- one from the other
 claims : {values : List ℕ} {events : List (Event ℕ)} {after : List ℕ} → SerialSteps values events after → Claims values events after
 claims s = (s .leaves, s .answers, s .whole, s .order)
 
+-- a built hierarchy: n, edges and edge count that building took unrefused, lent these places and this scratch, with the intervals it wrote
+abbrev BuiltIn : Hierarchy → List ℕ → List ℕ → Type 0
+BuiltIn H places scratch =
+    let b = buildStep (H .n) (H .edges) (H .edgeCount) places scratch in (b .answer ≡ done tt) × (H .intervals ≡ take (2 * H .n) (b .places))
+
+-- one from the other
+abbrev built-in : (H : Hierarchy) (places scratch : List ℕ) → BuiltIn H places scratch → Built H
+built-in H places scratch b = record { places = places; scratch = scratch; took = b .0; wrote = b .1 }
+
 -- any list of steps, refused ones included, over a built hierarchy, from a fresh desk and n values of zero,
-demand-3 : (H : Hierarchy) → Built H → (steps : List Step)
+demand-3 : (H : Hierarchy) (places scratch : List ℕ) → BuiltIn H places scratch → (steps : List Step)
     → let zeros : List ℕ = replicate (H .n) 0 in let ran = run steps (start H zeros) in Claims zeros (ran .events) (ran .state .values)
-demand-3 H b steps = claims (serial.demand-3 H b steps)
+demand-3 H places scratch b steps = claims (serial.demand-3 H (built-in H places scratch b) steps)
 
 -- and from any n values
-serializable : (H : Hierarchy) → Built H → (values : List ℕ) → length values ≡ H .n → (steps : List Step)
+serializable : (H : Hierarchy) (places scratch : List ℕ) → BuiltIn H places scratch → (values : List ℕ) → length values ≡ H .n → (steps : List Step)
     → let ran = run steps (start H values) in Claims values (ran .events) (ran .state .values)
-serializable H b values sized steps = claims (serial.serializable H b values sized steps)
+serializable H places scratch b values sized steps = claims (serial.serializable H (built-in H places scratch b) values sized steps)
 
 -- its first form: with the hierarchy beside the state, in no step's reach
-serializable-over : (H : Hierarchy) → Built H → (values : List ℕ) → length values ≡ H .n → (steps : List Step)
+serializable-over : (H : Hierarchy) (places scratch : List ℕ) → BuiltIn H places scratch → (values : List ℕ) → length values ≡ H .n → (steps : List Step)
     → let ran = runOver H steps (startOver values) in Claims values (ran .events) (ran .state .values)
-serializable-over H b values sized steps = claims (serial.serializable-over H b values sized steps)
+serializable-over H places scratch b values sized steps = claims (serial.serializable-over H (built-in H places scratch b) values sized steps)
 
--- its second form, of a host's own calls: whatever calls were made, where each result meets the contract of its method, these very results
-results-serial : (H : Hierarchy) → Built H → (values : List ℕ) → length values ≡ H .n → (made : List Made) → AllMeet H freshDesk values made
-    → Claims values (toldByAll made) (lastValues values made)
-results-serial H b values sized made met = claims (results.results-serial H b values sized made met)
+-- its second form, of a host's own calls. A buffer is lent of a table: the table with anything behind it, or too short, whatever it holds
+abbrev Lent : List ℕ → List ℕ → Type 0
+Lent table buffer = (length buffer < length table) ⊎ (take (length table) buffer ≡ table)
+
+-- the result of a call meets the contract of its method, on a hierarchy as lent, a desk, and values of which get and put are lent
+abbrev Contract : Hierarchy → Desk → List ℕ → Result → Type 0
+Contract K d values (enter party mode names nameCount r) = Enters r (enterStep K d party mode names nameCount)
+Contract K d values (get party node buffer r) = Lent values buffer × Gets r (getStep K d party node buffer)
+Contract K d values (put party node value buffer r after) = Lent values buffer × Puts r after (putStep K d party node value buffer)
+Contract K d values (leave party list r after) = Leaves r after (leaveStep K d party list)
+
+-- each does, on the desk that the one before handed back and the values as last left, over one hierarchy
+Contracts : Hierarchy → Desk → List ℕ → List Made → Type 0
+Contracts H d values [] = Unit
+Contracts H d values (m ∷ ms) =
+    Lent (H .intervals) (m .intervals) × Lent (edgesOf (H .edges) (H .edgeCount)) (m .edges)
+    × Contract (lent (H .n) (m .intervals) (m .edges) (H .edgeCount)) d values (m .result)
+    × Contracts H (deskFrom (m .result)) (valuesFrom values (m .result)) ms
+
+-- one from the other
+met : (K : Hierarchy) (d : Desk) (values : List ℕ) (r : Result) → Contract K d values r → Meets K d values r
+met K d values (enter party mode names nameCount r) c = c
+met K d values (get party node buffer r) c = c
+met K d values (put party node value buffer r after) c = c
+met K d values (leave party list r after) c = c
+
+all-met : (H : Hierarchy) (d : Desk) (values : List ℕ) (made : List Made) → Contracts H d values made → AllMeet H d values made
+unfolding AllMeet Contracts
+all-met H d values [] c = tt
+all-met H d values (m ∷ ms) c =
+    (c .0, c .1, met (lent (H .n) (m .intervals) (m .edges) (H .edgeCount)) d values (m .result) (c .2), all-met H (deskFrom (m .result)) (valuesFrom values (m .result)) ms (c .3))
+
+-- whatever calls were made, from a fresh desk and any n values, where each result meets its contract: the claims hold of these very results,
+results-serial : (H : Hierarchy) (places scratch : List ℕ) → BuiltIn H places scratch → (values : List ℕ) → length values ≡ H .n → (made : List Made)
+    → Contracts H freshDesk values made → Claims values (toldByAll made) (lastValues values made)
+results-serial H places scratch b values sized made c =
+    claims (results.results-serial H (built-in H places scratch b) values sized made (all-met H freshDesk values made c))
+
+-- and from n values of zero
+results-demand-3 : (H : Hierarchy) (places scratch : List ℕ) → BuiltIn H places scratch → (made : List Made)
+    → let zeros : List ℕ = replicate (H .n) 0 in Contracts H freshDesk zeros made → Claims zeros (toldByAll made) (lastValues zeros made)
+results-demand-3 H places scratch b made c =
+    let zeros : List ℕ = replicate (H .n) 0 in claims (results.results-demand-3 H (built-in H places scratch b) made (all-met H freshDesk zeros made c))
+
+-- there are such lists: each run is what some list of calls gives whose results meet the contracts
+run-made : (H : Hierarchy) (values : List ℕ) → length values ≡ H .n → (steps : List Step) → let ran = run steps (start H values) in
+    (made : List Made) × AllMeet H freshDesk values made
+    × (toldByAll made ≡ ran .events) × (lastDesk freshDesk made ≡ ran .state .desk) × (lastValues values made ≡ ran .state .values)
+run-made H values sized steps =
+    let m = results.run-made H values sized steps in
+    (m .0, m .1, sym (ap (λ (x : Ran). x .events) (m .2)), sym (ap (λ (x : Ran). x .state .desk) (m .2)), sym (ap (λ (x : Ran). x .state .values) (m .2)))
 
 -- and of a file: where it is not refused, of its step records and the answers in its listing, from n zeros
 file-serial : (file : List ℕ) (ran : FileRun) → runFile file ≡ done ran
@@ -258,14 +368,18 @@ leave-sound : (H : Hierarchy) (d : Desk) (party : ℕ) (list : List ℕ) → len
 leave-sound H d party list e q = kept.leave-sound H d party list (record { entries = e; queue = q })
 
 -- so the desk that any list of steps leaves is sound,
-run-sound : (H : Hierarchy) → Built H → (values : List ℕ) (steps : List Step) → soundDesk H ((run steps (start H values)) .state .desk) ≡ true
-run-sound = never.run-sound
+run-sound : (H : Hierarchy) (places scratch : List ℕ) → BuiltIn H places scratch → (values : List ℕ) (steps : List Step)
+    → soundDesk H ((run steps (start H values)) .state .desk) ≡ true
+run-sound H places scratch b = never.run-sound H (built-in H places scratch b)
 
 -- and none of them is refused with 10
-never-ten : (H : Hierarchy) → Built H → (values : List ℕ) (steps : List Step) → any (refusedWith 10) ((run steps (start H values)) .events) ≡ false
-never-ten = never.never-ten
+never-ten : (H : Hierarchy) (places scratch : List ℕ) → BuiltIn H places scratch → (values : List ℕ) (steps : List Step)
+    → any (refusedWith 10) ((run steps (start H values)) .events) ≡ false
+never-ten H places scratch b = never.never-ten H (built-in H places scratch b)
 
 -- the same of a host's own calls
-results-sound : (H : Hierarchy) → Built H → (values : List ℕ) (made : List Made) → AllMeet H freshDesk values made
-    → (soundDesk H (lastDesk freshDesk made) ≡ true) × (any (refusedWith 10) (toldByAll made) ≡ false)
-results-sound H b values made met = (never.results-sound H b values made met, never.results-never-ten H b values made met)
+results-sound : (H : Hierarchy) (places scratch : List ℕ) → BuiltIn H places scratch → (values : List ℕ) → length values ≡ H .n → (made : List Made)
+    → Contracts H freshDesk values made → (soundDesk H (lastDesk freshDesk made) ≡ true) × (any (refusedWith 10) (toldByAll made) ≡ false)
+results-sound H places scratch b values sized made c =
+    let all = all-met H freshDesk values made c in
+    (never.results-sound H (built-in H places scratch b) values sized made all, never.results-never-ten H (built-in H places scratch b) values sized made all)
