@@ -1,14 +1,43 @@
--- EACH REFUSAL AT ITS EDGE: every figure is what the definitions give, by computation. Assumes nothing.
+-- EACH REFUSAL AT ITS EDGE: every figure is what the definitions give, by computation; of the longest files for all of that length. Assumes nothing.
 use mathlib.Core.Path.{_≡_, refl}
-use mathlib.Core.Bool.{true}
+use mathlib.Core.Bool.{true, false}
+use mathlib.Core.List.{List, [], _∷_}
+use mathlib.Core.Option.{some}
+use Prim.Native.Nat.{ℕ}
+use lib.ListN.{length}
 use Rattle.lists.specs.Lists.{allBelow, anyBelow, every, any}
-use Rattle.lists.specs.Answer.{refusal}
+use Rattle.lists.specs.Answer.{_when_, refusal}
 use Rattle.hierarchy.specs.Hierarchy.{someEdge, spread, spreads, reach, edgeTwice, someUnreached}
-use Rattle.blocks.specs.File.{notBlocks}
+use Rattle.octets.specs.Fletcher.{words, sums, fletcher}
+use Rattle.blocks.specs.Record.{enterRight, kinds, rowIn, recordRight, inOrder}
+use Rattle.blocks.specs.Block.{afterRecord, afterRecords, countRight, headRight, afterBlock, blockBody, blockOf}
+use Rattle.blocks.specs.File.{afterBlocks, notBlocks, recordsWrong, writeRefusal}
 use Rattle.parties.specs.Sound.{soundParties}
+use Rattle.examples.specs.Cases.{sameNumbers}
 use Rattle.examples.specs.Rows.{right}
 use Rattle.examples.specs.Edges.{edges}
 
 pub all-edges : every right edges ≡ true
-unfolding allBelow anyBelow every any refusal someEdge spread spreads reach edgeTwice someUnreached notBlocks soundParties right edges
+unfolding allBelow anyBelow every any refusal someEdge spread spreads reach edgeTwice someUnreached words sums fletcher enterRight kinds rowIn
+    recordRight inOrder afterRecord afterRecords countRight headRight afterBlock blockBody blockOf afterBlocks notBlocks soundParties
+    sameNumbers right edges
 all-edges = refl
+
+-- 2, bytes not 1 to 128 whole blocks: no file of 128 blocks, and every file of 129
+pub most-blocks : (file : List ℕ) → length file ≡ 65536 → notBlocks file ≡ false
+unfolding notBlocks
+most-blocks file e = rw e refl
+
+pub more-blocks : (file : List ℕ) → length file ≡ 66048 → notBlocks file ≡ true
+unfolding notBlocks
+more-blocks file e = rw e refl
+
+-- 2, over 3,968 records to write: 3,968 are not refused with it, whatever they are, and 3,969 always are, into room for 128 and 129 blocks
+pub most-records : (records room : List ℕ) → length records ≡ 63488 → length room ≡ 65536
+    → writeRefusal records 3968 room ≡ refusal (4 when recordsWrong records 3968 ∷ [])
+unfolding refusal
+most-records records room e f = rw (e, f) refl
+
+pub more-records : (records room : List ℕ) → length records ≡ 63504 → length room ≡ 66048 → writeRefusal records 3969 room ≡ some 2
+unfolding refusal
+more-records records room e f = rw (e, f) refl

@@ -8,7 +8,7 @@ use Rattle.intervals.specs.Numbering.{meet, visit, inside, walk, numbering}
 use Rattle.intervals.specs.Intervals.{numbersAmong, lowOf, highOf, intervalsFrom, intervalTable}
 use Rattle.intervals.specs.Cover.{closest}
 use Rattle.intervals.specs.Build.{buildStep}
-use Rattle.examples.specs.Cases.{sameNumbers, wrote, passes}
+use Rattle.examples.specs.Cases.{sameNumbers, unrefused, wrote, passes}
 use Rattle.examples.specs.Rows.{right}
 use Rattle.examples.specs.Hierarchies.{hierarchies, small}
 
@@ -19,5 +19,5 @@ all-hierarchies = refl
 
 pub all-small : every passes small ≡ true
 unfolding every any over foldFrom least greatest refusal children someEdge spread spreads reach edgeTwice someUnreached meet visit inside
-    walk numbering numbersAmong lowOf highOf intervalsFrom intervalTable closest buildStep sameNumbers wrote passes small
+    walk numbering numbersAmong lowOf highOf intervalsFrom intervalTable closest buildStep sameNumbers unrefused wrote passes small
 all-small = refl

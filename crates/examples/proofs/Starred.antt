@@ -17,7 +17,7 @@ use Rattle.sweeps.specs.Sweeps.{offer, sweep}
 use Rattle.desk.specs.Steps.{enterStep, getStep, putStep, leaveStep}
 use Rattle.runs.specs.Run.{lend, restored, lentTo, afterEnter, afterGet, afterPut, listed, afterLeave, moveCall, move, alsoRan, run}
 use Rattle.replay.specs.Replay.{eachRecord, edgeTable, runRecords, runFile}
-use Rattle.examples.specs.Cases.{sameNumbers, asNumbers, sameAnswers, wrote, disjoint, gave, passes}
+use Rattle.examples.specs.Cases.{sameNumbers, asNumbers, sameAnswers, unrefused, wrote, spans, disjoint, gave, passes}
 use Rattle.examples.specs.Table.{fileT, fileShared, starred}
 
 pub all-starred : every passes starred ≡ true
@@ -26,5 +26,5 @@ unfolding allBelow anyBelow every any keep count over foldFrom least greatest re
     fletcher enterRight kinds rowIn recordRight inOrder afterRecord afterRecords countRight headRight afterBlock recordsIn blockBody blockOf afterBlocks
     recordsOf notBlocks blocksOf soundParties enterStep getStep putStep offer sweep leaveStep eachRecord edgeTable lend restored lentTo afterEnter afterGet afterPut listed afterLeave
     moveCall move alsoRan run
-    runRecords runFile sameNumbers asNumbers sameAnswers wrote disjoint gave passes fileT fileShared starred
+    runRecords runFile sameNumbers asNumbers sameAnswers unrefused wrote spans disjoint gave passes fileT fileShared starred
 all-starred = refl

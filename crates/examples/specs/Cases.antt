@@ -17,8 +17,8 @@ pub data Case : Type 0 where
   intervals : (n : ℕ) (edges expected : List ℕ) → Case
   -- n, the edges, the named nodes, and the cover
   cover : (n : ℕ) (edges names : List ℕ) (expected : ℕ) → Case
-  -- n, the edges, two nodes that share nothing in their reach, low and high of the first, and a file with what its listing has
-  apart : (n : ℕ) (edges : List ℕ) (first second low high : ℕ) (records : List (List ℕ)) (answers : List StepAnswer) (holders waiters grants : ℕ) → Case
+  -- n, the edges, two nodes that share nothing in their reach, low and high of the first and of the second, and a file with what its listing has
+  apart : (n : ℕ) (edges : List ℕ) (first second low high low′ high′ : ℕ) (records : List (List ℕ)) (answers : List StepAnswer) (holders waiters grants : ℕ) → Case
   -- the records of a file, the answers of its steps, and holders, waiters and grants at the end
   listing : (records : List (List ℕ)) (answers : List StepAnswer) (holders waiters grants : ℕ) → Case
 
@@ -49,13 +49,21 @@ sameAnswers (a ∷ xs) (b ∷ bs) = sameNumbers (asNumbers a) (asNumbers b) && s
 abbrev pub built : ℕ → List ℕ → BuildResult
 built n edges = buildStep n edges (length edges / 2) (replicate (2 * n) 0) (replicate 2048 0)
 
--- it is not refused, and writes the expected numbers
-unfoldable pub wrote : BuildResult → List ℕ → Bool
-wrote result expected = isDone (result .answer) && sameNumbers (result .places) expected
+-- it is not refused
+unfoldable pub unrefused : BuildResult → Bool
+unrefused result = isDone (result .answer)
   where
     isDone : Answer (Unit {0}) → Bool
     isDone (done _) = true
     isDone (denied k) = false
+
+-- it is not refused, and writes the expected numbers
+unfoldable pub wrote : BuildResult → List ℕ → Bool
+wrote result expected = unrefused result && sameNumbers (result .places) expected
+
+-- low and high of a node, as they were written
+unfoldable pub spans : BuildResult → ℕ → ℕ → ℕ → Bool
+spans result node low high = eqb (lowAt (result .places) node) low && eqb (highAt (result .places) node) high
 
 -- no node is in both sets
 unfoldable pub disjoint : List ℕ → List ℕ → Bool
@@ -80,9 +88,9 @@ written records = fileOf (flat records) (length records)
 -- THE TEST
 unfoldable pub passes : Case → Bool
 passes (intervals n edges expected) = wrote (built n edges) expected
-passes (cover n edges names expected) = eqb (coverOf n ((built n edges) .places) names) expected
-passes (apart n edges first second low high records answers holders waiters grants) =
+passes (cover n edges names expected) = unrefused (built n edges) && eqb (coverOf n ((built n edges) .places) names) expected
+passes (apart n edges first second low high low′ high′ records answers holders waiters grants) =
     disjoint (reach n edges first) (reach n edges second)
-    && eqb (lowAt ((built n edges) .places) first) low && eqb (highAt ((built n edges) .places) first) high
+    && unrefused (built n edges) && spans (built n edges) first low high && spans (built n edges) second low′ high′
     && gave (runFile (written records)) answers holders waiters grants
 passes (listing records answers holders waiters grants) = gave (runFile (written records)) answers holders waiters grants

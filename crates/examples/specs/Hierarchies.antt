@@ -68,6 +68,8 @@ small =
     ∷ intervals 4 (0 ∷ 1 ∷ 1 ∷ 2 ∷ 2 ∷ 1 ∷ 2 ∷ 3 ∷ 0 ∷ 3 ∷ []) (1 ∷ 2 ∷ 1 ∷ 2 ∷ 1 ∷ 2 ∷ 2 ∷ 2 ∷ [])
     ∷ intervals 7 (3 ∷ 4 ∷ 2 ∷ 3 ∷ 1 ∷ 2 ∷ 0 ∷ 1 ∷ 4 ∷ 2 ∷ 1 ∷ 5 ∷ 4 ∷ 6 ∷ 5 ∷ 6 ∷ [])
     (1 ∷ 2 ∷ 1 ∷ 2 ∷ 1 ∷ 2 ∷ 1 ∷ 2 ∷ 1 ∷ 2 ∷ 2 ∷ 2 ∷ 2 ∷ 2 ∷ [])
+    -- 0→1, 1→2, 0→3, 3→1: node 1 is closed and has no number when the walk comes to it from 3, and is passed over
+    ∷ intervals 4 (0 ∷ 1 ∷ 1 ∷ 2 ∷ 0 ∷ 3 ∷ 3 ∷ 1 ∷ []) (1 ∷ 1 ∷ 1 ∷ 1 ∷ 1 ∷ 1 ∷ 1 ∷ 1 ∷ [])
     ∷ cover 10 T (3 ∷ 3 ∷ 3 ∷ []) 3
     ∷ cover 10 T (0 ∷ []) 0
     ∷ cover 10 T (6 ∷ []) 2
