@@ -3,16 +3,16 @@
 use mathlib.Core.Path.{_≡_, refl, sym, ap, subst, _∙_}
 use mathlib.Core.Logic.{_⊎_, inl, inr}
 use mathlib.Core.List.{List, [], _∷_, _++_}
-use mathlib.Core.Bool.{Bool, true, false, cond, _||_}
+use mathlib.Core.Bool.{Bool, true, false, _||_}
 use mathlib.Core.Option.{Option, none, some}
 use Prim.Native.Nat.{ℕ, _*_, _≤_, _<_}
 use native.Mathlib.Omega.{arith}
 use lib.Dec.{eqb, ltb}
-use lib.ListN.{length, getD, set, take, drop, replicate, length-take, length-set, length-replicate, drop-of-length-le, take-append-drop}
-use lib.Seq.{take-length, take-all, take-take, take-append-seam, length-take-le}
+use lib.ListN.{length, getD, take, drop, replicate, length-take, length-set, length-replicate, drop-of-length-le, take-append-drop}
+use lib.Seq.{take-length, take-take, take-append-seam, length-take-le}
 use borrow.Author.Tests.{eqb-true, ltb-true, ltb-false, lt-ltb, le-ltb}
 use Rattle.lists.specs.Lists.{over}
-use Rattle.lists.specs.Answer.{Answer, done, refused, Check, refusal}
+use Rattle.lists.specs.Answer.{Answer, done, refused, refusal}
 use Rattle.lists.proofs.Bools.{bool}
 use Rattle.lists.proofs.Refusals.{refused-here}
 use Rattle.hierarchy.specs.Hierarchy.{edgesOf}
@@ -27,7 +27,7 @@ use Rattle.desk.specs.declared.PutAnswer.the-variants.{Stored, Refused as PutRe
 use Rattle.desk.specs.declared.LeaveAnswer.{LeaveAnswer}
 use Rattle.desk.specs.declared.LeaveAnswer.the-variants.{Left, Refused as LeaveRefused}
 use Rattle.desk.specs.Desks.{freshDesk}
-use Rattle.desk.specs.Steps.{Admission, granted, waits, EnterResult, GetResult, PutResult, LeaveResult, putOwn, leaveOwn, enterOwn, stepChecks, nodeChecks, valueChecks}
+use Rattle.desk.specs.Steps.{Admission, granted, waits, PutResult, putOwn, valueChecks}
 use Rattle.desk.specs.Steps.{enterUnless, enterStep, getUnless, getStep, putUnless, putStep, leaveUnless, leaveStep}
 use Rattle.desk.specs.Answers.{enterMeaning, getMeaning, putMeaning, leaveMeaning, getCase}
 use Rattle.runs.specs.Run.{Lending, whole, part, lend, restored, Call, enter, get, put, leave, Step, lentTo, Event, entered, got, stored, left, State, start}

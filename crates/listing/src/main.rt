@@ -65,7 +65,10 @@ fn part_end(from: usize, all: usize) -> usize
 // Tells on standard error that the listing was not written; a program has no exit status of its own.
 fn tell(written: bool) {
     if !written {
-        io::write_all(2, b"listing: standard output did not take the whole listing\n");
+        io::write_all(
+            2,
+            b"listing: standard output did not take the whole listing\n",
+        );
     }
 }
 
@@ -141,10 +144,7 @@ fn write_steps(
         written = written & part.written;
         from = to;
     }
-    Part {
-        progress,
-        written,
-    }
+    Part { progress, written }
 }
 
 // Writes the listing of an open file.

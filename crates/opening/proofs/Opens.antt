@@ -27,7 +27,8 @@ use Rattle.blocks.specs.Block.{afterRecord, afterRecords}
 use Rattle.blocks.specs.File.{wholeBlocks, notBlocks, fileChecks, fileRecords, readRefusal, readFile, readMeaning}
 use Rattle.blocks.proofs.Answers.{blocks-facts}
 use Rattle.locks.specs.Lent.{Hierarchy, lent}
-use Rattle.replay.specs.Replay.{FileRun, eachRecord, recordList, isRecord, sizeOf, edgeTable, edgeCountOf, stepRecords, builtOf, startOf, fileRun, performAll, runUnless, runRecords, fileUnless, runFile}
+use Rattle.replay.specs.Replay.{FileRun, eachRecord, recordList, isRecord, sizeOf, edgeTable, edgeCountOf, stepRecords, builtOf, startOf, fileRun}
+use Rattle.replay.specs.Replay.{performAll, runUnless, runRecords, fileUnless, runFile}
 use Rattle.replay.specs.declared.EdgesAnswer.{EdgesAnswer}
 use Rattle.replay.specs.declared.EdgesAnswer.the-variants.{Edges, Refused as EdgesRefused}
 use Rattle.replay.specs.Answers.{edgesRefusal, edgesInto, edgesMeaning, EdgesInto}

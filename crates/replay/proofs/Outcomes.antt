@@ -126,7 +126,8 @@ module _ (H : Hierarchy) (d : Desk) (bytes : List ℕ) (party : ℕ) (at-party :
       let x : PutResult = putStep H d party node number values in
       let same : x ≡ putStep H d (partyIn bytes) (nodeIn bytes) (valueIn bytes) values = rw (at-party, en, ev) refl in
       subst (λ (y : PutResult). Performs (plain (r .desk) o) values′ (performed (afterPut (partyIn bytes) (nodeIn bytes) (valueIn bytes) (stateOf H d values) y))) same
-      (performs _ values′ (afterPut (partyIn bytes) (nodeIn bytes) (valueIn bytes) (stateOf H d values) x) (e .0) (e .2 ∙ sym (restored-full values (x .values) (put-length H d party node number values)))
+      (performs _ values′ (afterPut (partyIn bytes) (nodeIn bytes) (valueIn bytes) (stateOf H d values) x) (e .0)
+      (e .2 ∙ sym (restored-full values (x .values) (put-length H d party node number values)))
       (eo ∙ ap (λ (a : Answer (Unit {0})). outcomeOf (putLine a)) (e .1)) (sym (put-none (x .answer))))
 
   pub left-performs : (r : LeaveStep) (list : List ℕ) (o : Outcome) → Leaves r list (leaveStep H d party (replicate 32 0)) → o ≡ leftOutcome (leaveMeaning (r .answer))

@@ -33,7 +33,7 @@ use Rattle.desk.specs.Answers.{Enters, Gets, Puts, Leaves}
 use Rattle.history.specs.Results.{Result, enter, get, put, leave, Made, Meets, deskFrom, valuesFrom, AllMeet, toldByAll, lastDesk, lastValues}
 use Rattle.soundness.specs.Refused.{refusedWith}
 use Rattle.file_laws.specs.Files.{eventsOf}
-use Rattle.replay.specs.Replay.{StepAnswer, waits, stored, left, FileRun, granted as admitted, refused as denied, recordList, stepRecords, sizeOf, runFile}
+use Rattle.replay.specs.Replay.{waits, stored, left, FileRun, granted as admitted, refused as denied, recordList, stepRecords, sizeOf, runFile}
 use Rattle.blocks.specs.File.{fileRecords}
 use Rattle.examples.specs.Cases.{intervals, cover, apart, listing, passes}
 use Rattle.examples.specs.Table.{T, shared, fileT, fileShared, starred}
@@ -383,3 +383,27 @@ results-sound : (H : Hierarchy) (places scratch : List ℕ) → BuiltIn H places
 results-sound H places scratch b values sized made c =
     let all = all-met H freshDesk values made c in
     (never.results-sound H (built-in H places scratch b) values sized made all, never.results-never-ten H (built-in H places scratch b) values sized made all)
+
+-- THE STARRED CASES, with the papers' figures, those of {8} and of the listing as document 02's point 1 has them: each passes, by computation. Table T and the
+-- table of the ninth case
+tables : (T ≡ 0 ∷ 1 ∷ 0 ∷ 2 ∷ 1 ∷ 3 ∷ 1 ∷ 4 ∷ 2 ∷ 5 ∷ 2 ∷ 6 ∷ 5 ∷ 7 ∷ 6 ∷ 7 ∷ 6 ∷ 8 ∷ 7 ∷ 9 ∷ 9 ∷ 7 ∷ [])
+    × (shared ≡ 0 ∷ 1 ∷ 0 ∷ 2 ∷ 0 ∷ 3 ∷ 0 ∷ 4 ∷ 4 ∷ 1 ∷ 4 ∷ 3 ∷ [])
+tables = (refl, refl)
+
+-- and the ten cases
+all-starred : every passes
+    (intervals 10 T (1 ∷ 4 ∷ 1 ∷ 2 ∷ 3 ∷ 4 ∷ 1 ∷ 1 ∷ 2 ∷ 2 ∷ 3 ∷ 3 ∷ 3 ∷ 4 ∷ 3 ∷ 3 ∷ 4 ∷ 4 ∷ 3 ∷ 3 ∷ [])
+    ∷ cover 10 T (3 ∷ 4 ∷ []) 1
+    ∷ cover 10 T (7 ∷ 8 ∷ []) 2
+    ∷ cover 10 T (9 ∷ []) 5
+    ∷ cover 10 T (4 ∷ 5 ∷ []) 0
+    ∷ cover 10 T (8 ∷ []) 8
+    ∷ intervals 1 [] (1 ∷ 1 ∷ [])
+    ∷ intervals 4 (0 ∷ 1 ∷ 1 ∷ 3 ∷ 1 ∷ 2 ∷ 2 ∷ 1 ∷ []) (1 ∷ 2 ∷ 1 ∷ 2 ∷ 1 ∷ 2 ∷ 1 ∷ 1 ∷ [])
+    ∷ apart 5 shared 4 2 1 3 2 2 fileShared (admitted 0 ∷ waits ∷ []) 1 1 1
+    ∷ listing fileT
+    (admitted 5 ∷ admitted 8 ∷ admitted 3 ∷ waits ∷ stored ∷ left (4 ∷ []) ∷ denied 16 ∷ waits ∷ denied 16 ∷ left [] ∷ [])
+    3 0 4
+    ∷ []) ≡ true
+unfolding starred
+all-starred = computed.all-starred

@@ -27,7 +27,8 @@ slice-reshare-prefix-write-all c =
 
 slice-aggregate-write-all : tie.Need-slice-aggregate-write-all
 slice-aggregate-write-all c =
-    let p = c .before .before .before .put-end in let s = c .before .before .before .before .before .before .before .before .before .before .before .write-steps in let d : Desk = s .result .progress .desk in
+    let p = c .before .before .before .put-end in
+    let s = c .before .before .before .before .before .before .before .before .before .before .before .write-steps in let d : Desk = s .result .progress .desk in
     let h : p .result ≤ length (p .last .1 .1 .0) = puts-within 0 (endLine (holdersAt d) (d .waiting) (d .grants)) (s .last .1 .1 .1 .1 .1 .1 .0) (omega arith)
     (p .ensures) in sym (length-take-le _ _ h)
 

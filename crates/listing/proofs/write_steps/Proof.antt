@@ -66,7 +66,8 @@ loop-again c =
       c .before .before .before .before .before .values .given ∙ v .1,
       c .before .before .before .text .given ∙ v .2,
       parts-turn (z .records .now) (a .from) (e .part-end .result) (e .part-end .ensures) (e .before .loop-test .taken)
-          (writtenOf (lent (z .n) (z .intervals .now) (z .edges .now) (z .edge-count)) (a .progress) (a .values) (a .text)) (v .3) (c .before .before .before .before .before .before .write-part .ensures),
+          (writtenOf (lent (z .n) (z .intervals .now) (z .edges .now) (z .edge-count)) (a .progress) (a .values) (a .text)) (v .3)
+          (c .before .before .before .before .before .before .write-part .ensures),
     )
 
 same-length : tie.Need-same-length Inv-loop μ-loop

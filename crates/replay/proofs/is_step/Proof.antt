@@ -1,12 +1,9 @@
 -- `is_step` meets its contract: the length is tested first, then the record, then its kind. Assumes nothing.
-use mathlib.Core.Path.{_≡_, refl, sym, ap, _∙_}
-use mathlib.Core.Bool.{Bool, _&&_}
-use Prim.Native.Nat.{ℕ}
-use lib.Dec.{eqb, leb}
+use mathlib.Core.Path.{refl, sym, ap, _∙_}
+use lib.Dec.{leb}
 use lib.ListN.{length}
 use borrow.Author.Needs.{needs}
 use borrow.Author.Tests.{eq-eqb, ne-eqb, not-true, not-false}
-use Rattle.blocks.specs.Record.{recordRight}
 use Rattle.replay.proofs.is_step.Statement.{statement}
 use Rattle.replay.proofs.is_step.Tie as tie
 
