@@ -3,27 +3,38 @@
 
     tests/names/check.py            prints each name that is not found, with document and line, then how many were looked at; exits 1 where one is missing
 
-What is looked at: each span in backquotes of the documents below, outside fenced blocks. A span is one of these, tried in this order:
+What is looked at: each span in backquotes of the documents below, outside fenced blocks, and the theorems that stand in them as indented blocks. A span
+is one of these, tried in this order:
 
   a command      its first word is in COMMANDS; the rest of it is not looked at
   a path         it has a slash, or ends as a file does: it exists. A part in capitals (CRATE, FILE, NAME) stands for any
+  a case         it has a colon, and starts as a line of a program of cases does (the first word of a line of crates/*/stdout, or a word behind a semicolon
+                 there) or with `..`, or has `..` just before the colon: it is such a line, from its start on; `..` is what was left out. It is never taken
+                 apart
   a line         it stands in what a program prints or is given (crates/*/stdout, crates/*/stdin, conformance/*.listing); `..` is what was left out
+  bytes          two or more pairs of hexadecimal figures
   names          else it is taken apart at blanks and signs, and every word of it that is no number is a name. `Desk::enter` is enter of Desk,
                  `IsCover .below` is below of IsCover. A word with `..` before or behind it is the end or the start of some name
 
 A name is found where it is *declared*; that it occurs, in a comment or in use, is not enough. Declared are
-  in crates/*/specs and proofs     definitions, theorems, records, data, their fields and constructors, modules; parameters
-  in crates/*/src                  functions, structs, fields, enums, variants, constants; parameters and variables; crates, in crates.txt
+  in crates/*/specs and proofs     definitions, theorems, records, data, their fields and constructors, modules
+  in crates/*/src                  functions, structs, fields, enums, variants, constants; the parameters of public functions; crates, in crates.txt
   files                            must-fail edits, conformance cases, a function's proofs by its folder
   the kit's                        what a crate imports of it (`use lib.., mathlib..`), or calls (`io::..`)
   in include/record_desk.h         functions
   in tools/blockfile               functions
-and the words in WORDS, each with its reason.
+and the words in WORDS, each with its reason. Variables, and the parameters of definitions and of private functions, are known only inside a span of
+several words.
 
 Beyond that:
   `a`, `b` (crate/specs/File)      the file exists and declares each name of the list before the parenthesis; (crate), (File): the crate does, a file so named
   edit `a`, edits `a`, `b`         each is the name of a must-fail edit; so is each name in a table's column Edit or Edits
   conformance `a`, `b`             each is the name of a conformance case
+  a table's column Function        each name in it is a public function of the crate (or of the struct) that the last `crate::name` of its cell named, and the
+                                   column has every public function of the libraries. "N public functions" says how many there are, "its N" in a table's row
+                                   how many the crate has that the row begins with
+  an indented block                in README.md it is a drawing or a command. In docs/ it is a theorem, `name : ..`: its statement is, blanks aside, the one
+                                   that a file of crates/*/specs or proofs declares under that name, and each word in it is declared, or bound in it
   crate/specs/File, docs/File ..   paths in the text, without backquotes too, exist
 """
 import glob
@@ -60,10 +71,11 @@ WORD = r"[\w′₀⊎-]+"
 
 
 class Declared:
-    """The names of one file: those declared, and those of parameters and variables."""
+    """The names of one file: those declared, those of public functions and of their parameters, and all other parameters and variables."""
 
     def __init__(self):
         self.names, self.parameters, self.inner, self.members = set(), set(), set(), {}
+        self.public, self.statements = set(), {}
 
 
 def mixfix(name):
@@ -105,6 +117,19 @@ def of_antt(text):
     return d
 
 
+def statements(text):
+    """The statement of each name, blanks aside: its line and those further in that follow."""
+    found, lines = {}, re.sub(r" *--[^\n]*", "", text).split("\n")
+    for k, line in enumerate(lines):
+        m = re.match(r"( *)(?:(?:abbrev|unfoldable|pub|opaque|private|instance) )*(\S+) : ", line)
+        if m:
+            end = k + 1
+            while end < len(lines) and lines[end].startswith(m[1] + " "):
+                end += 1
+            found.setdefault(m[2], set()).add(" ".join(" ".join([line[m.start(2):]] + lines[k + 1:end]).split()))
+    return found
+
+
 def of_rattle(text):
     d = Declared()
     text = re.sub(r"//[^\n]*", "", text)
@@ -120,8 +145,11 @@ def of_rattle(text):
         else:
             mine.update(re.findall(r"\bfn (\w+)", body))
         d.names.update(mine)
+    for name, parameters in re.findall(r"^ *pub (?:extern \"C\" )?fn (\w+)\(([^)]*)\)", code, re.M):
+        d.public.add(name)
+        d.parameters.update(re.findall(r"\b(\w+): ", parameters))
     d.inner.update(re.findall(r"\blet (?:mut )?(\w+)", code))
-    d.parameters.update(re.findall(r"\b(\w+): [&\[\w]", code))
+    d.inner.update(re.findall(r"\b(\w+): [&\[\w]", code))
     d.inner.update(re.findall(r"\b\w+::\w+\((\w+)\)", code))
     return d
 
@@ -131,6 +159,8 @@ files, kit = {}, set()
 for name in sorted(glob.glob("crates/**/*.antt", recursive=True) + glob.glob("crates/**/*.rt", recursive=True)):
     text = read(name)
     files[name] = of_antt(text) if name.endswith(".antt") else of_rattle(text)
+    if name.endswith(".antt"):
+        files[name].statements = statements(text)
     for path, names in re.findall(r"^(?:ghost )?use ([\w.·-]+)\.\{([^}]*)\}", text, re.M):
         if not path.startswith("Rattle·"):
             for n in names.split(","):
@@ -158,6 +188,10 @@ for f in glob.glob("crates/*/stdout") + glob.glob("crates/*/stdin") + glob.glob(
     with open(f, "rb") as stream:
         printed.update(stream.read().decode("utf-8", "replace").split("\n"))
 printed = "\n".join(sorted(printed))
+told = sorted({line for f in glob.glob("crates/*/stdout") for line in read(f).split("\n") if line and not line.startswith("#")})
+openings = {w for line in told for w in re.findall(r"(?:^|; )([a-zA-Z]+)\b", line)} | {".."}
+told = "\n".join(told)
+functions = {(f.split("/")[1], name) for f, d in files.items() if re.fullmatch(r"crates/\w+/src/lib\.rt", f) for name in d.public}
 
 
 # ---- what is cited
@@ -187,12 +221,19 @@ def is_line(span):
     return " " in span and re.search(r"(?:^|\b|(?<= ))" + "[^\n]*".join(parts) + r"(?:$|\b)", printed, re.M) is not None
 
 
+def is_case(span):
+    """Whether the span can only be a line of a program of cases: the start of one and a colon before a blank or its end, or `..` just before it."""
+    return re.search(r"(?<!:):(?: |$)", span) is not None and (span.split(" ")[0] in openings or "..:" in span)
+
+
+def is_told(span):
+    """A line of such a program, from the start of the line on, or of a part behind a semicolon. No word or number is cut."""
+    parts = [r"(?<!\w)" * p.strip()[:1].isalnum() + " +".join(re.escape(w) for w in p.split()) + r"(?!\w)" * p.strip()[-1:].isalnum() for p in span.split("..")]
+    return re.search(r"(?:^|(?<=; ))" + r"[^\n]*".join(parts), told, re.M) is not None
+
+
 def known(word, alone):
-    if word in declared or word in words or (word in inner and not alone):
-        return True
-    if word.isdigit() or re.fullmatch(r"0x[0-9A-F]*|[0-9A-F]{2}", word):
-        return True
-    return False
+    return word in declared or word in words or (word in inner and not alone) or re.fullmatch(r"\d+|0x[0-9A-F]*", word) is not None
 
 
 def partly(word):
@@ -217,7 +258,12 @@ def look(document, at, span):
         if not exists(span.split(" ")[0]):
             miss(document, at, f"no such file: `{span}`")
         return
-    if is_line(span):
+    if is_case(span):
+        looked += 1
+        if not is_told(span):
+            miss(document, at, f"no program tells this case: `{span}`")
+        return
+    if is_line(span) or re.fullmatch(r"[0-9A-F]{2}(?: [0-9A-F]{2})+", span):
         looked += 1
         return
     for owner, member in re.findall(rf"({NAME})(?:::| \.)({NAME})", span):
@@ -261,6 +307,36 @@ def in_place(document, at, names, place):
             miss(document, at, f"not declared in ({place}): {name}")
 
 
+def theorem(document, at, text):
+    """A theorem in an indented block."""
+    global looked
+    text = " ".join(text.split())
+    name = text.split(" ")[0]
+    bound = {w for binder in re.findall(r"[({]([^(){}:]*) :", text) for w in binder.split()}
+    for word in re.findall(WORD, text):
+        looked += 1
+        if not (word in bound or known(word, True)):
+            miss(document, at, f"not declared: {word} in the theorem {name}")
+    if not any(text in d.statements.get(name, ()) for d in files.values()):
+        miss(document, at, f"{name} is not stated so in crates/*/specs or proofs")
+
+
+def function_column(document, cells):
+    """The column Function of a table: its lines and cells, each with the crate or struct that its last `..::name` had."""
+    found = set()
+    for at, cell in cells:
+        owner = None
+        for span in re.findall(r"`([^`]+)`", cell):
+            first, _, name = span.rpartition("::")
+            owner = first or owner
+            crate = owner if owner in crates else next((f.split("/")[1] for f, d in files.items() if f.endswith(".rt") and owner in d.members), None)
+            if (crate, name) not in functions or owner not in crates and name not in members.get(owner, ()):
+                miss(document, at, f"no public function of {owner}: {name}")
+            found.add((crate, name))
+    for crate, name in sorted(functions - found):
+        miss(document, cells[0][0], f"not in the column Function: {crate}::{name}")
+
+
 for document in DOCUMENTS:
     # fenced blocks are blanked, lines kept
     text = re.sub(r"^```.*?^```", lambda m: "\n" * m[0].count("\n"), read(document), flags=re.S | re.M)
@@ -281,13 +357,25 @@ for document in DOCUMENTS:
             for name in re.findall(r"`([^`]+)`", re.sub(r"\([^()]*\)", "", m[1])):
                 if re.fullmatch(NAME, name) and name not in labels:
                     miss(document, at(m.start()), f"no {'must-fail edit' if word == 'edits?' else 'conformance case'} {name}")
-    column = None
-    for k, line in enumerate(text.split("\n"), 1):
+    for m in re.finditer(r"(?<=\n\n)(?: {4,}[^\n]+\n)+(?=\n|$)", text):
+        if document != "README.md":
+            theorem(document, at(m.start()), m[0])
+    for m in re.finditer(r"(?:^\| `(\w+)` \|[^\n]*\bits )?\b(\d+) public functions", text, re.M):
+        count = sum(1 for crate, _ in functions if m[1] in (None, crate))
+        if int(m[2]) != count:
+            miss(document, at(m.start()), f"{m[2]} public functions, and there are {count}")
+    column, column_cells = None, []
+    for k, line in enumerate(text.split("\n") + [""], 1):
         cells = [c.strip() for c in line.split("|")] if line.startswith("|") else []
         if not cells:
-            column = None
+            if column_cells:
+                function_column(document, column_cells)
+            column, column_cells = None, []
         elif column is None:
-            column = next((i for i, c in enumerate(cells) if c in ("Edit", "Edits")), 0)
+            column = next((i for i, c in enumerate(cells) if c in ("Edit", "Edits", "Function")), 0)
+            heading = cells[column]
+        elif column and heading == "Function":
+            column_cells += [(k, cells[column])] if "`" in cells[column] else []
         elif column and column < len(cells):
             for name in re.findall(r"`([^`]+)`", cells[column]):
                 if name not in edits:
