@@ -13,7 +13,7 @@ listedIn queue i = getD queue i 0
 abbrev pub listOf : Listed → List ℕ
 listOf list = take (list .count) (list .places)
 
--- the 32 places that hold an arrival list: the list, and zeros behind it
+-- the 32 places that hold an arrival list: the list, and zeros behind it. What goes past 32 is cut off
 abbrev pub queuePlaces : List ℕ → List ℕ
 queuePlaces list = take 32 (list ++ replicate 32 0)
 

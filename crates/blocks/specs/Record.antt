@@ -118,7 +118,8 @@ rowIn (k ∷ ks) kind = cond (eqb kind (k .number)) k (rowIn ks kind)
 abbrev pub rowOf : List ℕ → Kind
 rowOf r = rowIn kinds (kindOf r)
 
--- the kind has a row, and mode, name count and unused bytes are right
+-- the kind has a row, and mode, name count and unused bytes are right. No length is asked: what is missing of 16 bytes counts as zero, and what is behind
+-- them as unused
 unfoldable pub recordRight : List ℕ → Bool
 recordRight r = rowOf r .right r
 

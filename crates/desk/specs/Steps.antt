@@ -84,7 +84,7 @@ abbrev pub enterRefusal : Hierarchy → Desk → ℕ → List ℕ → ℕ → Op
 enterRefusal H d party names nameCount =
     refusal (stepChecks H d party (ltb (length names) nameCount) (enterOwn H d party names nameCount))
 
--- the party holds the lock
+-- the party holds the lock, and the grant is counted; behind the arrival list stand zeros
 abbrev pub grantTo : Desk → ℕ → Lock → Desk
 grantTo d party l =
     record { entries = set (d .entries) party (entryOf (Holding l)); queue = queuePlaces (queueOf d); waiting = d .waiting; grants = countGrants (d .grants) 1 }

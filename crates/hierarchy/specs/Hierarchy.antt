@@ -9,7 +9,8 @@ use lib.ListN.{getD, set, take, replicate}
 use Rattle.lists.specs.Lists.{keptIf, setIf, any}
 use Rattle.lists.specs.Answer.{Check, _when_, refusal}
 
--- an edge table has two numbers an edge, parent and child, and its edge count is given beside it: the edges in it
+-- an edge table has two numbers an edge, parent and child, and its edge count is given beside it: the edges in it. A table that is shorter than its
+-- count has those that it has, and an odd last number is no edge
 abbrev pub edgesOf : List ℕ → ℕ → List ℕ
 edgesOf table edgeCount = take (2 * edgeCount) table
 
@@ -58,7 +59,7 @@ reach n es node = spreads n es (set (replicate n 0) node 1)
 abbrev pub inReach : ℕ → List ℕ → List ℕ → ℕ → Bool
 inReach n es names node = any (λ name. flagged (reach n es name) node) names
 
--- these nodes flagged, one after the other
+-- these nodes flagged, one after the other; a name past the flags is passed over
 unfoldable pub flagAll : List ℕ → List ℕ → List ℕ
 flagAll [] flags = flags
 flagAll (name ∷ names) flags = flagAll names (set flags name 1)

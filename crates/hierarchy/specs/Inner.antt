@@ -1,4 +1,4 @@
--- Terms of the contracts of private functions only: no definition of the paper is here. Assumes nothing.
+-- Terms of the contracts of private functions, and of `edge_at`: no definition of the paper is here. Assumes nothing.
 use mathlib.Core.Path.{_≡_}
 use mathlib.Core.Bool.{Bool, _&&_}
 use mathlib.Core.List.{List}

@@ -34,7 +34,7 @@ module _ {A : Type 0} where
   withOp true op v = record { party = v .party; ops = v .ops ++ (op ∷ []) }
   withOp false op v = v
 
-  -- goes last in the party's latest visit
+  -- goes last in the party's latest visit; where the party has none, nothing is added (`SerialSteps .whole` says that it never comes to that)
   unfoldable pub addToLatest : ℕ → Op A → List (Transaction A) → List (Transaction A)
   addToLatest party op [] = []
   addToLatest party op (v ∷ vs) =

@@ -48,11 +48,11 @@ abbrev pub intervalWrong : Hierarchy → ℕ → Bool
 intervalWrong H node =
     not (realInterval (lowIn H node) (highIn H node)) || ltb (lowIn H node) (lowIn H 0) || ltb (highIn H 0) (highIn H node)
 
--- 15: name count not 1 to 8, or node not below n
+-- 15: name count not 1 to 8, or node not below n, among as many names as are counted (fewer lent than counted are refused with 1 before)
 abbrev pub namesWrong : ℕ → List ℕ → ℕ → Bool
 namesWrong n names nameCount = not (leb 1 nameCount && leb nameCount 8) || any (λ node. not (ltb node n)) (take nameCount names)
 
--- a hold consists of its party, mode, cover and the cover's interval
+-- a hold consists of its party, mode, cover and the cover's interval; the party is its place at the desk
 abbrev pub lockOn : Hierarchy → Mode → ℕ → Lock
 lockOn H mode cover = record { mode = mode; cover = cover; low = lowIn H cover; high = highIn H cover }
 

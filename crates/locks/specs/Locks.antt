@@ -13,7 +13,7 @@ bothReading Reading Reading = true
 bothReading Reading Writing = false
 bothReading Writing b = false
 
--- the intervals share a number
+-- the intervals share a number: low of each is at most high of the other. Low above high, which no sound desk has, is judged by the same two tests
 abbrev pub share : Lock → Lock → Bool
 share a b = leb (a .low) (b .high) && leb (b .low) (a .high)
 

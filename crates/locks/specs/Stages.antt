@@ -37,7 +37,7 @@ holdersConflict Out s = false
 holdersConflict (Waiting l) s = false
 holdersConflict (Holding l) s = againstHolder l s
 
--- the test holds of the lock that a party holds or waits for
+-- the test holds of the lock that a party holds or waits for; of a party that is out nothing is asked
 abbrev pub ofLock : (Lock → Bool) → Stage → Bool
 ofLock p Out = true
 ofLock p (Waiting l) = p l
@@ -54,7 +54,7 @@ readsOnly Out = false
 readsOnly (Waiting l) = false
 readsOnly (Holding l) = isReading (l .mode)
 
--- what a waiter waits for, held
+-- what a waiter waits for, held; another stage stays
 abbrev pub held : Stage → Stage
 held Out = Out
 held (Waiting l) = Holding l

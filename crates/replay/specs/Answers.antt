@@ -37,7 +37,7 @@ edgesMeaning (EdgesRefused k) = denied k
 abbrev pub EdgesInto : EdgesAnswer → List ℕ → EdgesResult → Type 0
 EdgesInto r table s = (edgesMeaning r ≡ s .answer) × (table ≡ s .table)
 
--- A STEP. What each case of its answer is in the paper; `parties` has those that a leave granted first
+-- A STEP. What each case of its answer is in the paper; `parties` has those that a leave granted first, as many as it counts, or as there are
 abbrev pub stepMeaning : Outcome → List ℕ → StepAnswer
 stepMeaning (Granted cover) parties = granted cover
 stepMeaning Waits parties = waits

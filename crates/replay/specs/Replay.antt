@@ -24,11 +24,11 @@ unfoldable pub eachRecord : ℕ → List ℕ → List (List ℕ)
 eachRecord zero bytes = []
 eachRecord (suc k) bytes = take 16 bytes ∷ eachRecord k (drop 16 bytes)
 
--- all of them
+-- all of them; bytes behind the last whole one are left out
 abbrev pub recordList : List ℕ → List (List ℕ)
 recordList bytes = eachRecord (length bytes / 16) bytes
 
--- THE HIERARCHY of a file. n, from the size record, which comes first; 0 where there is no record
+-- THE HIERARCHY of a file. n, from its first record, which reading knows to be the size record; 0 where there is no record
 abbrev pub sizeOf : List (List ℕ) → ℕ
 sizeOf [] = 0
 sizeOf (r ∷ rs) = sizeIn r
@@ -47,7 +47,7 @@ edgeTable (r ∷ rs) = edgeIf (eqb (kindOf r) 2) (parentIn r) (childIn r) (edgeT
 abbrev pub edgeCountOf : List (List ℕ) → ℕ
 edgeCountOf rs = count (λ r. eqb (kindOf r) 2) rs
 
--- the steps, in their order
+-- the steps, in their order: the records of a kind from 3 on, which reading knows to be right
 abbrev pub stepRecords : List (List ℕ) → List (List ℕ)
 stepRecords rs = keep (λ r. leb 3 (kindOf r)) rs
 
@@ -71,7 +71,7 @@ putCall r = put (partyIn r) (nodeIn r) (valueIn r) whole
 abbrev pub leaveCall : List ℕ → Call
 leaveCall r = leave (partyIn r) (replicate 32 0)
 
--- by its kind: 3 enter, 4 get, 5 put, 6 leave
+-- by its kind: 3 enter, 4 get, 5 put, and 6 leave, the one left of those that a step can have
 abbrev pub callOf : List ℕ → Call
 callOf r = cond (eqb (kindOf r) 3) (enterCall r) (cond (eqb (kindOf r) 4) (getCall r) (cond (eqb (kindOf r) 5) (putCall r) (leaveCall r)))
 
@@ -146,7 +146,7 @@ abbrev pub performIf : Bool → State → List ℕ → Performed
 performIf true s r = performed (performStep s r)
 performIf false s r = record { state = s; answer = refused 4 }
 
--- any bytes performed as a record: 4 where they are no record of 16 bytes, one that is not right, or no step
+-- any bytes performed as a record: 4 where they are no record of 16 bytes, one that is not right, or no step, before all else, even before 1
 abbrev pub perform : State → List ℕ → Performed
 perform s r = performIf (isStep r) s r
 

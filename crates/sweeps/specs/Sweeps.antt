@@ -34,7 +34,8 @@ abbrev pub offerIf : Bool → Sweep → ℕ → Lock → Sweep
 offerIf true s party l = isGranted s party l
 offerIf false s party l = staysWaiting s party
 
--- a waiter that conflicts with no holder, those just granted included, and with no earlier party still waiting, is granted
+-- a waiter that conflicts with no holder, those just granted included, and with no earlier party still waiting, is granted. A party that is listed and does
+-- not wait, which no sound desk has, stays listed
 abbrev pub offerTo : Sweep → ℕ → Stage → Sweep
 offerTo s party Out = staysWaiting s party
 offerTo s party (Waiting l) = offerIf (not (meetsHolder (s .entries) l || meetsWaiter (s .entries) (s .stay) l)) s party l
@@ -53,7 +54,7 @@ sweep s (party ∷ parties) = sweep (offer s party) parties
 abbrev pub sweepOf : List Entry → List ℕ → Sweep
 sweepOf entries parties = sweep (record { entries = entries; stay = []; granted = [] }) parties
 
--- a holder gives up its hold, a waiter its call; the others in the arrival list are then taken
+-- a holder gives up its hold, a waiter its call; the others in the arrival list are then taken. So they are where the party is out, or none of the 32
 abbrev pub leavingOf : List Entry → List ℕ → ℕ → Sweep
 leavingOf entries list party = sweepOf (set entries party (entryOf Out)) (keep (λ other. not (eqb other party)) list)
 
