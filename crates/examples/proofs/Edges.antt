@@ -15,13 +15,24 @@ use Rattle.blocks.specs.File.{afterBlocks, notBlocks, recordsWrong, writeRefusa
 use Rattle.parties.specs.Sound.{soundParties}
 use Rattle.examples.specs.Cases.{sameNumbers}
 use Rattle.examples.specs.Rows.{right}
-use Rattle.examples.specs.Edges.{edges}
+use Rattle.examples.specs.Edges.{edges, blockEdges, recordEdges, soundEdges}
 
 pub all-edges : every right edges ≡ true
-unfolding allBelow anyBelow every any refusal someEdge spread spreads reach edgeTwice someUnreached words sums fletcher enterRight kinds rowIn
-    recordRight inOrder afterRecord afterRecords countRight headRight afterBlock blockBody blockOf afterBlocks notBlocks soundParties
-    sameNumbers right edges
+unfolding allBelow anyBelow every any refusal someEdge spread spreads reach edgeTwice someUnreached notBlocks soundParties right edges
 all-edges = refl
+
+pub all-block-edges : every right blockEdges ≡ true
+unfolding every refusal words sums fletcher enterRight kinds rowIn recordRight inOrder afterRecord afterRecords countRight headRight afterBlock
+    blockBody blockOf afterBlocks notBlocks sameNumbers right blockEdges
+all-block-edges = refl
+
+pub all-record-edges : every right recordEdges ≡ true
+unfolding every refusal enterRight kinds rowIn recordRight inOrder afterRecord afterRecords right recordEdges
+all-record-edges = refl
+
+pub all-sound-edges : every right soundEdges ≡ true
+unfolding allBelow anyBelow every any soundParties sameNumbers right soundEdges
+all-sound-edges = refl
 
 -- 2, bytes not 1 to 128 whole blocks: no file of 128 blocks, and every file of 129
 pub most-blocks : (file : List ℕ) → length file ≡ 65536 → notBlocks file ≡ false

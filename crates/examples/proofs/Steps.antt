@@ -8,10 +8,11 @@ use Rattle.intervals.specs.Cover.{closest}
 use Rattle.parties.specs.Sound.{soundParties}
 use Rattle.sweeps.specs.Sweeps.{offer, sweep}
 use Rattle.desk.specs.Steps.{enterStep, getStep, putStep, leaveStep}
-use Rattle.runs.specs.Run.{listed}
+use Rattle.blocks.specs.Record.{enterRight, kinds, rowIn, recordRight}
+use Rattle.runs.specs.Run.{lend, lentTo, afterEnter, listed, afterLeave, moveCall, move}
 use Rattle.examples.specs.Cases.{sameNumbers, asNumbers, sameAnswers}
 use Rattle.examples.specs.Rows.{right}
-use Rattle.examples.specs.Steps.{allStages, deskNumbers, steps, tables, desks}
+use Rattle.examples.specs.Steps.{allStages, deskNumbers, steps, tables, desks, records}
 
 pub all-steps : every right steps ≡ true
 unfolding allBelow anyBelow every any keep over foldFrom least greatest refusal someEdge closest soundParties enterStep getStep putStep offer
@@ -27,3 +28,8 @@ pub all-desks : every right desks ≡ true
 unfolding allBelow anyBelow every any keep over foldFrom least greatest refusal someEdge closest soundParties enterStep getStep putStep offer
     sweep leaveStep listed sameNumbers asNumbers sameAnswers allStages deskNumbers right desks
 all-desks = refl
+
+pub all-records : every right records ≡ true
+unfolding allBelow anyBelow every any keep over foldFrom least greatest refusal someEdge closest soundParties enterStep offer sweep leaveStep
+    enterRight kinds rowIn recordRight lend lentTo afterEnter listed afterLeave moveCall move sameNumbers asNumbers sameAnswers right records
+all-records = refl

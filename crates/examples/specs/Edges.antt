@@ -55,8 +55,90 @@ putLent values = numberOf (refusal (valueChecks ones holding 1 1 (replicate valu
 abbrev pub leaveLent : ℕ → ℕ
 leaveLent bytes = numberOf (leaveRefusal ones holding 1 (replicate bytes 0))
 
--- A BLOCK BY HAND: number 0, one record, which is size 1, and a last byte. Its words are 1 in bytes 4 and 5 and 257 in bytes 8 and 9, so that a ends as 258,
--- b as 1 + 1 + 250 × 258 = 64,502, and the check's bytes are 2, 1, 246, 251
+-- the conditions, lowest number first; those of blocks, of records and of a sound desk are below
+unfoldable pub edges : List Row
+edges =
+    -- 1, a lent buffer is shorter than needed. Building writes 2n numbers, an edge table has two numbers an edge, it needs 2,048 bytes of scratch: of n = 2, 4 and 3
+    -- places, 2 numbers and 1, 2,048 bytes and 2,047
+    is (one (buildShort 2 (0 ∷ 1 ∷ []) 1 (replicate 4 0) (replicate 2048 0))) 0
+    ∷ is (one (buildShort 2 (0 ∷ 1 ∷ []) 1 (replicate 3 0) (replicate 2048 0))) 1
+    ∷ is (one (buildShort 2 (0 ∷ []) 1 (replicate 4 0) (replicate 2048 0))) 1
+    ∷ is (one (buildShort 2 (0 ∷ 1 ∷ []) 1 (replicate 4 0) (replicate 2047 0))) 1
+    -- every step is lent the intervals and the edges
+    ∷ is (one (tablesShort ones)) 0
+    ∷ is (one (tablesShort (two (replicate 3 1)))) 1
+    ∷ is (one (tablesShort (lent 2 (replicate 4 1) (0 ∷ []) 1))) 1
+    -- get and put also the n values
+    ∷ is (getLent 2) 0
+    ∷ is (getLent 1) 1
+    ∷ is (putLent 2) 0
+    ∷ is (putLent 1) 1
+    -- enter as many names as its name count says
+    ∷ is (entering 1 (1 ∷ []) 1) 0
+    ∷ is (entering 1 [] 1) 1
+    -- leave its 32 bytes
+    ∷ is (leaveLent 32) 0
+    ∷ is (leaveLent 31) 1
+    -- 2, bytes not 1 to 128 whole blocks: 512, 511, 513, 1,024, none. 128 blocks and 129, 3,968 records and 3,969: `most-blocks` and what follows it (proofs/Edges)
+    ∷ is (one (notBlocks (replicate 512 0))) 0
+    ∷ is (one (notBlocks (replicate 511 0))) 1
+    ∷ is (one (notBlocks (replicate 513 0))) 1
+    ∷ is (one (notBlocks (replicate 1024 0))) 0
+    ∷ is (one (notBlocks [])) 1
+    -- 5: n = 0, 1, 256, 257
+    ∷ is (one (sizeWrong 0)) 1
+    ∷ is (one (sizeWrong 1)) 0
+    ∷ is (one (sizeWrong 256)) 0
+    ∷ is (one (sizeWrong 257)) 1
+    -- 6: 1,024 edges, 1,025
+    ∷ is (one (edgesTooMany 1024)) 0
+    ∷ is (one (edgesTooMany 1025)) 1
+    -- 7: of n = 2, 0→1; a child and a parent not below n; child 0; equal ends
+    ∷ is (one (someEdge (edgeWrong 2) (0 ∷ 1 ∷ []))) 0
+    ∷ is (one (someEdge (edgeWrong 2) (0 ∷ 2 ∷ []))) 1
+    ∷ is (one (someEdge (edgeWrong 2) (2 ∷ 1 ∷ []))) 1
+    ∷ is (one (someEdge (edgeWrong 2) (1 ∷ 0 ∷ []))) 1
+    ∷ is (one (someEdge (edgeWrong 2) (1 ∷ 1 ∷ []))) 1
+    -- 8: 0→1, 0→2; 0→1, 0→1
+    ∷ is (one (edgeTwice (0 ∷ 1 ∷ 0 ∷ 2 ∷ []))) 0
+    ∷ is (one (edgeTwice (0 ∷ 1 ∷ 0 ∷ 1 ∷ []))) 1
+    -- 9: of n = 2, 0→1; no edge
+    ∷ is (one (someUnreached 2 (0 ∷ 1 ∷ []))) 0
+    ∷ is (one (someUnreached 2 [])) 1
+    -- 10: of node 1, an interval that ends at 256; at 257; low 0; low at high; low above high; not inside the root's, [2,9]
+    ∷ is (one (intervalWrong (two (1 ∷ 256 ∷ 1 ∷ 256 ∷ [])) 1)) 0
+    ∷ is (one (intervalWrong (two (1 ∷ 257 ∷ 1 ∷ 257 ∷ [])) 1)) 1
+    ∷ is (one (intervalWrong (two (0 ∷ 9 ∷ 0 ∷ 9 ∷ [])) 1)) 1
+    ∷ is (one (intervalWrong (two (1 ∷ 9 ∷ 5 ∷ 5 ∷ [])) 1)) 0
+    ∷ is (one (intervalWrong (two (1 ∷ 9 ∷ 5 ∷ 4 ∷ [])) 1)) 1
+    ∷ is (one (intervalWrong (two (2 ∷ 9 ∷ 1 ∷ 9 ∷ [])) 1)) 1
+    ∷ is (one (intervalWrong (two (2 ∷ 9 ∷ 2 ∷ 10 ∷ [])) 1)) 1
+    -- 11: party 31, 32
+    ∷ is (entering 31 (1 ∷ []) 1) 0
+    ∷ is (entering 32 (1 ∷ []) 1) 11
+    -- 15: no name; eight; nine; a node not below n; and 1 before it, where fewer names are lent than counted
+    ∷ is (entering 1 [] 0) 15
+    ∷ is (entering 1 (replicate 8 1) 8) 0
+    ∷ is (entering 1 (replicate 9 1) 9) 15
+    ∷ is (entering 1 (2 ∷ []) 1) 15
+    ∷ is (entering 1 (replicate 8 1) 9) 1
+    -- the count of grants stops
+    ∷ is (countGrants 4294967294 1) 4294967295
+    ∷ is (countGrants 4294967295 1) 4294967295
+    -- conflict of two holds, as the C host asks: intervals that meet, that do not, both reading; modes 0 and 3, low 0, ends at 256 and 257, low above high
+    ∷ is (conflictCall 1 1 4 2 4 9) 1
+    ∷ is (conflictCall 1 1 4 2 5 9) 0
+    ∷ is (conflictCall 1 1 4 1 4 9) 0
+    ∷ is (conflictCall 0 1 4 1 4 9) 10
+    ∷ is (conflictCall 3 1 4 1 4 9) 10
+    ∷ is (conflictCall 1 0 4 2 4 9) 10
+    ∷ is (conflictCall 1 1 4 2 4 256) 1
+    ∷ is (conflictCall 1 1 4 2 4 257) 10
+    ∷ is (conflictCall 2 4 3 2 4 9) 10
+    ∷ []
+
+-- BLOCKS: 1, 3 and 4. A block by hand: number 0, one record, which is size 1, and a last byte. Its words are 1 in bytes 4 and 5 and 257 in bytes 8 and 9,
+-- so that a ends as 258, b as 1 + 1 + 250 × 258 = 64,502, and the check's bytes are 2, 1, 246, 251
 abbrev pub sizeOne : ℕ → List ℕ
 sizeOne last = 0 ∷ 0 ∷ 0 ∷ 0 ∷ 1 ∷ 0 ∷ 0 ∷ 0 ∷ 1 ∷ 1 ∷ replicate 498 0 ++ (2 ∷ 1 ∷ 246 ∷ last ∷ [])
 
@@ -72,13 +154,94 @@ writingRecords records count room = numberOf (writeRefusal records count (replic
 abbrev pub headWith : ℕ → ℕ
 headWith at = one (headRight 0 true (set (sizeOne 251) at 9))
 
--- whether a record is right, of one with another byte at a place
+-- the conditions of reading and writing a block
+unfoldable pub blockEdges : List Row
+blockEdges =
+    -- 1: reading needs 496 bytes for each whole block
+    is (readingFile (sizeOne 251) 496) 0
+    ∷ is (readingFile (sizeOne 251) 495) 1
+    -- writing 16 for each record and 512 for each block
+    ∷ is (writingRecords (size 1) 1 512) 0
+    ∷ is (writingRecords (take 15 (size 1)) 1 512) 1
+    ∷ is (writingRecords (size 1) 1 511) 1
+    -- 3, check differs: byte 511 flipped, and one more; it is given before 4, which byte 6 is wrong for
+    ∷ is (readingFile (sizeOne 4) 496) 3
+    ∷ is (readingFile (sizeOne 252) 496) 3
+    ∷ is (readingFile (set (sizeOne 251) 6 1) 496) 3
+    -- the block by hand is the one that writing makes
+    ∷ are (blockOf 0 (size 1)) (sizeOne 251)
+    -- 4, number: bytes 0 to 3 hold the block's number from 0
+    ∷ is (readingFile (blockOf 0 (size 1)) 496) 0
+    ∷ is (readingFile (blockOf 1 (size 1)) 496) 4
+    -- 4, count: 1 to 31, and all blocks but the last hold 31; no records to write
+    ∷ is (one (countRight true 0)) 0
+    ∷ is (one (countRight true 1)) 1
+    ∷ is (one (countRight true 31)) 1
+    ∷ is (one (countRight true 32)) 0
+    ∷ is (one (countRight false 30)) 0
+    ∷ is (one (countRight false 31)) 1
+    ∷ is (one (countRight false 32)) 0
+    ∷ is (writingRecords (size 1) 0 512) 4
+    -- 4, unused byte of a block: 6 and 7 zero, and what is behind the record, which ends with byte 23, up to the check in 508 to 511
+    ∷ is (headWith 6) 0
+    ∷ is (headWith 7) 0
+    ∷ is (headWith 8) 1
+    ∷ is (headWith 23) 1
+    ∷ is (headWith 24) 0
+    ∷ is (headWith 507) 0
+    ∷ is (headWith 508) 1
+    ∷ []
+
+-- RECORDS: 4. Whether one is right, with another byte at a place
 abbrev pub recordWith : List ℕ → ℕ → ℕ
 recordWith r at = one (recordRight (set r at 9))
 
 -- an enter of party 0 with a mode and a name count, all names 0
 abbrev pub enterWith : ℕ → ℕ → List ℕ
 enterWith mode nameCount = bytes16 (3 ∷ 0 ∷ mode ∷ nameCount ∷ [])
+
+-- the conditions of records
+unfoldable pub recordEdges : List Row
+recordEdges =
+    -- 4, kind: 1 size to 6 leave
+    is (one (recordRight (bytes16 (0 ∷ [])))) 0
+    ∷ is (one (recordRight (bytes16 (1 ∷ [])))) 1
+    ∷ is (one (recordRight (bytes16 (6 ∷ [])))) 1
+    ∷ is (one (recordRight (bytes16 (7 ∷ [])))) 0
+    -- 4, mode: 1 reading, 2 writing
+    ∷ is (one (recordRight (enterWith 0 1))) 0
+    ∷ is (one (recordRight (enterWith 1 1))) 1
+    ∷ is (one (recordRight (enterWith 2 1))) 1
+    ∷ is (one (recordRight (enterWith 3 1))) 0
+    -- 4, name count: 1 to 8
+    ∷ is (one (recordRight (enterWith 1 0))) 0
+    ∷ is (one (recordRight (enterWith 1 8))) 1
+    ∷ is (one (recordRight (enterWith 1 9))) 0
+    -- 4, unused byte of a record: size has bytes 1 and 2, edge 1 and 2, enter 1 to 3 and its names from 4 on, 11 at most, get 1 and 2, put 1, 2 and 4 to 11, leave 1
+    ∷ is (recordWith (size 1) 2) 1
+    ∷ is (recordWith (size 1) 3) 0
+    ∷ is (recordWith (edge 0 1) 2) 1
+    ∷ is (recordWith (edge 0 1) 3) 0
+    ∷ is (recordWith (enterWith 1 1) 4) 1
+    ∷ is (recordWith (enterWith 1 1) 5) 0
+    ∷ is (recordWith (enterWith 1 8) 11) 1
+    ∷ is (recordWith (enterWith 1 8) 12) 0
+    ∷ is (recordWith (get 0 1) 2) 1
+    ∷ is (recordWith (get 0 1) 3) 0
+    ∷ is (recordWith (put 0 1 1) 3) 0
+    ∷ is (recordWith (put 0 1 1) 4) 1
+    ∷ is (recordWith (put 0 1 1) 11) 1
+    ∷ is (recordWith (put 0 1 1) 12) 0
+    ∷ is (recordWith (leave 0) 1) 1
+    ∷ is (recordWith (leave 0) 2) 0
+    ∷ is (recordWith (put 0 1 1) 15) 0
+    -- 4, order: one size record comes first, then all edges, then steps
+    ∷ is (writingRecords (edge 0 1) 1 512) 4
+    ∷ is (writingRecords (size 2 ++ size 2) 2 512) 4
+    ∷ is (writingRecords (size 2 ++ edge 0 1 ++ leave 0) 3 512) 0
+    ∷ is (writingRecords (size 2 ++ leave 0 ++ edge 0 1) 3 512) 4
+    ∷ is (writingRecords (size 2 ++ leave 0 ++ size 2) 3 512) 4
+    ∷ []
 
 -- A SOUND DESK: whether each of its seven clauses holds, in the paper's order, and then whether the desk is sound
 abbrev pub clauses : Hierarchy → Desk → List ℕ
@@ -125,137 +288,11 @@ oneMore = record { entries = blocked .entries ++ (entryOf (Waiting (lock Reading
 abbrev pub reader : Desk
 reader = holdsNode freshDesk 1 Reading 1 1
 
--- the conditions, lowest number first
-unfoldable pub edges : List Row
-edges =
-    -- 1, a lent buffer is shorter than needed. Building writes 2n numbers, an edge table has two numbers an edge, it needs 2,048 bytes of scratch: of n = 2, 4 and 3
-    -- places, 2 numbers and 1, 2,048 bytes and 2,047
-    is (one (buildShort 2 (0 ∷ 1 ∷ []) 1 (replicate 4 0) (replicate 2048 0))) 0
-    ∷ is (one (buildShort 2 (0 ∷ 1 ∷ []) 1 (replicate 3 0) (replicate 2048 0))) 1
-    ∷ is (one (buildShort 2 (0 ∷ []) 1 (replicate 4 0) (replicate 2048 0))) 1
-    ∷ is (one (buildShort 2 (0 ∷ 1 ∷ []) 1 (replicate 4 0) (replicate 2047 0))) 1
-    -- every step is lent the intervals and the edges
-    ∷ is (one (tablesShort ones)) 0
-    ∷ is (one (tablesShort (two (replicate 3 1)))) 1
-    ∷ is (one (tablesShort (lent 2 (replicate 4 1) (0 ∷ []) 1))) 1
-    -- get and put also the n values
-    ∷ is (getLent 2) 0
-    ∷ is (getLent 1) 1
-    ∷ is (putLent 2) 0
-    ∷ is (putLent 1) 1
-    -- enter as many names as its name count says
-    ∷ is (entering 1 (1 ∷ []) 1) 0
-    ∷ is (entering 1 [] 1) 1
-    -- leave its 32 bytes
-    ∷ is (leaveLent 32) 0
-    ∷ is (leaveLent 31) 1
-    -- reading needs 496 bytes for each whole block
-    ∷ is (readingFile (sizeOne 251) 496) 0
-    ∷ is (readingFile (sizeOne 251) 495) 1
-    -- writing 16 for each record and 512 for each block
-    ∷ is (writingRecords (size 1) 1 512) 0
-    ∷ is (writingRecords (take 15 (size 1)) 1 512) 1
-    ∷ is (writingRecords (size 1) 1 511) 1
-    -- 2, bytes not 1 to 128 whole blocks: 512, 511, 513, 1,024, none. 128 blocks and 129, 3,968 records and 3,969: `most-blocks` and what follows it (proofs/Edges)
-    ∷ is (one (notBlocks (replicate 512 0))) 0
-    ∷ is (one (notBlocks (replicate 511 0))) 1
-    ∷ is (one (notBlocks (replicate 513 0))) 1
-    ∷ is (one (notBlocks (replicate 1024 0))) 0
-    ∷ is (one (notBlocks [])) 1
-    -- 3, check differs: byte 511 flipped, and one more; it is given before 4, which byte 6 is wrong for
-    ∷ is (readingFile (sizeOne 4) 496) 3
-    ∷ is (readingFile (sizeOne 252) 496) 3
-    ∷ is (readingFile (set (sizeOne 251) 6 1) 496) 3
-    -- the block by hand is the one that writing makes
-    ∷ are (blockOf 0 (size 1)) (sizeOne 251)
-    -- 4, number: bytes 0 to 3 hold the block's number from 0
-    ∷ is (readingFile (blockOf 0 (size 1)) 496) 0
-    ∷ is (readingFile (blockOf 1 (size 1)) 496) 4
-    -- 4, count: 1 to 31, and all blocks but the last hold 31; no records to write
-    ∷ is (one (countRight true 0)) 0
-    ∷ is (one (countRight true 1)) 1
-    ∷ is (one (countRight true 31)) 1
-    ∷ is (one (countRight true 32)) 0
-    ∷ is (one (countRight false 30)) 0
-    ∷ is (one (countRight false 31)) 1
-    ∷ is (one (countRight false 32)) 0
-    ∷ is (writingRecords (size 1) 0 512) 4
-    -- 4, unused byte of a block: 6 and 7 zero, and what is behind the record, which ends with byte 23, up to the check in 508 to 511
-    ∷ is (headWith 6) 0
-    ∷ is (headWith 7) 0
-    ∷ is (headWith 8) 1
-    ∷ is (headWith 23) 1
-    ∷ is (headWith 24) 0
-    ∷ is (headWith 507) 0
-    ∷ is (headWith 508) 1
-    -- 4, kind: 1 size to 6 leave
-    ∷ is (one (recordRight (bytes16 (0 ∷ [])))) 0
-    ∷ is (one (recordRight (bytes16 (1 ∷ [])))) 1
-    ∷ is (one (recordRight (bytes16 (6 ∷ [])))) 1
-    ∷ is (one (recordRight (bytes16 (7 ∷ [])))) 0
-    -- 4, mode: 1 reading, 2 writing
-    ∷ is (one (recordRight (enterWith 0 1))) 0
-    ∷ is (one (recordRight (enterWith 1 1))) 1
-    ∷ is (one (recordRight (enterWith 2 1))) 1
-    ∷ is (one (recordRight (enterWith 3 1))) 0
-    -- 4, name count: 1 to 8
-    ∷ is (one (recordRight (enterWith 1 0))) 0
-    ∷ is (one (recordRight (enterWith 1 8))) 1
-    ∷ is (one (recordRight (enterWith 1 9))) 0
-    -- 4, unused byte of a record: size has bytes 1 and 2, edge 1 and 2, enter 1 to 3 and its names from 4 on, 11 at most, get 1 and 2, put 1, 2 and 4 to 11, leave 1
-    ∷ is (recordWith (size 1) 2) 1
-    ∷ is (recordWith (size 1) 3) 0
-    ∷ is (recordWith (edge 0 1) 2) 1
-    ∷ is (recordWith (edge 0 1) 3) 0
-    ∷ is (recordWith (enterWith 1 1) 4) 1
-    ∷ is (recordWith (enterWith 1 1) 5) 0
-    ∷ is (recordWith (enterWith 1 8) 11) 1
-    ∷ is (recordWith (enterWith 1 8) 12) 0
-    ∷ is (recordWith (get 0 1) 2) 1
-    ∷ is (recordWith (get 0 1) 3) 0
-    ∷ is (recordWith (put 0 1 1) 3) 0
-    ∷ is (recordWith (put 0 1 1) 4) 1
-    ∷ is (recordWith (put 0 1 1) 11) 1
-    ∷ is (recordWith (put 0 1 1) 12) 0
-    ∷ is (recordWith (leave 0) 1) 1
-    ∷ is (recordWith (leave 0) 2) 0
-    ∷ is (recordWith (put 0 1 1) 15) 0
-    -- 4, order: one size record comes first, then all edges, then steps
-    ∷ is (writingRecords (edge 0 1) 1 512) 4
-    ∷ is (writingRecords (size 2 ++ size 2) 2 512) 4
-    ∷ is (writingRecords (size 2 ++ edge 0 1 ++ leave 0) 3 512) 0
-    ∷ is (writingRecords (size 2 ++ leave 0 ++ edge 0 1) 3 512) 4
-    ∷ is (writingRecords (size 2 ++ leave 0 ++ size 2) 3 512) 4
-    -- 5: n = 0, 1, 256, 257
-    ∷ is (one (sizeWrong 0)) 1
-    ∷ is (one (sizeWrong 1)) 0
-    ∷ is (one (sizeWrong 256)) 0
-    ∷ is (one (sizeWrong 257)) 1
-    -- 6: 1,024 edges, 1,025
-    ∷ is (one (edgesTooMany 1024)) 0
-    ∷ is (one (edgesTooMany 1025)) 1
-    -- 7: of n = 2, 0→1; a child and a parent not below n; child 0; equal ends
-    ∷ is (one (someEdge (edgeWrong 2) (0 ∷ 1 ∷ []))) 0
-    ∷ is (one (someEdge (edgeWrong 2) (0 ∷ 2 ∷ []))) 1
-    ∷ is (one (someEdge (edgeWrong 2) (2 ∷ 1 ∷ []))) 1
-    ∷ is (one (someEdge (edgeWrong 2) (1 ∷ 0 ∷ []))) 1
-    ∷ is (one (someEdge (edgeWrong 2) (1 ∷ 1 ∷ []))) 1
-    -- 8: 0→1, 0→2; 0→1, 0→1
-    ∷ is (one (edgeTwice (0 ∷ 1 ∷ 0 ∷ 2 ∷ []))) 0
-    ∷ is (one (edgeTwice (0 ∷ 1 ∷ 0 ∷ 1 ∷ []))) 1
-    -- 9: of n = 2, 0→1; no edge
-    ∷ is (one (someUnreached 2 (0 ∷ 1 ∷ []))) 0
-    ∷ is (one (someUnreached 2 [])) 1
-    -- 10: of node 1, an interval that ends at 256; at 257; low 0; low at high; low above high; not inside the root's, [2,9]
-    ∷ is (one (intervalWrong (two (1 ∷ 256 ∷ 1 ∷ 256 ∷ [])) 1)) 0
-    ∷ is (one (intervalWrong (two (1 ∷ 257 ∷ 1 ∷ 257 ∷ [])) 1)) 1
-    ∷ is (one (intervalWrong (two (0 ∷ 9 ∷ 0 ∷ 9 ∷ [])) 1)) 1
-    ∷ is (one (intervalWrong (two (1 ∷ 9 ∷ 5 ∷ 5 ∷ [])) 1)) 0
-    ∷ is (one (intervalWrong (two (1 ∷ 9 ∷ 5 ∷ 4 ∷ [])) 1)) 1
-    ∷ is (one (intervalWrong (two (2 ∷ 9 ∷ 1 ∷ 9 ∷ [])) 1)) 1
-    ∷ is (one (intervalWrong (two (2 ∷ 9 ∷ 2 ∷ 10 ∷ [])) 1)) 1
+-- each clause of a sound desk by itself: a desk that it alone rejects, beside one that is sound
+unfoldable pub soundEdges : List Row
+soundEdges =
     -- 10, desk not sound. A fresh one is, and one where party 1 writes node 1, which 2 waits to read
-    ∷ are (clauses ones freshDesk) allHold
+    are (clauses ones freshDesk) allHold
     ∷ are (clauses ones blocked) allHold
     -- a sound desk lists only parties 0 to 31: 31, and 32
     ∷ are (clauses ones (callsListed blocked 31 Reading)) allHold
@@ -288,31 +325,9 @@ edges =
     -- or an earlier waiter: the one that reads behind the one that writes, and before it
     ∷ are (clauses ones (callsListed (callsListed reader 2 Writing) 3 Reading)) allHold
     ∷ are (clauses ones (callsListed (callsListed reader 3 Reading) 2 Writing)) (allBut 6)
-    -- 11: party 31, 32
-    ∷ is (entering 31 (1 ∷ []) 1) 0
-    ∷ is (entering 32 (1 ∷ []) 1) 11
-    -- 15: no name; eight; nine; a node not below n; and 1 before it, where fewer names are lent than counted
-    ∷ is (entering 1 [] 0) 15
-    ∷ is (entering 1 (replicate 8 1) 8) 0
-    ∷ is (entering 1 (replicate 9 1) 9) 15
-    ∷ is (entering 1 (2 ∷ []) 1) 15
-    ∷ is (entering 1 (replicate 8 1) 9) 1
-    -- the count of grants stops
-    ∷ is (countGrants 4294967294 1) 4294967295
-    ∷ is (countGrants 4294967295 1) 4294967295
-    -- conflict of two holds, as the C host asks: intervals that meet, that do not, both reading; modes 0 and 3, low 0, ends at 256 and 257, low above high
-    ∷ is (conflictCall 1 1 4 2 4 9) 1
-    ∷ is (conflictCall 1 1 4 2 5 9) 0
-    ∷ is (conflictCall 1 1 4 1 4 9) 0
-    ∷ is (conflictCall 0 1 4 1 4 9) 10
-    ∷ is (conflictCall 3 1 4 1 4 9) 10
-    ∷ is (conflictCall 1 0 4 2 4 9) 10
-    ∷ is (conflictCall 1 1 4 2 4 256) 1
-    ∷ is (conflictCall 1 1 4 2 4 257) 10
-    ∷ is (conflictCall 2 4 3 2 4 9) 10
     ∷ []
 
--- 11 to 17 by the steps of a file over table T: each refused beside one that is not
+-- STEPS. 11 to 17 by the steps of a file over table T: each refused beside one that is not
 unfoldable pub fileEdges : List (List ℕ)
 fileEdges =
     size 10

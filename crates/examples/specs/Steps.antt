@@ -17,8 +17,8 @@ use Rattle.desk.specs.Sound.{soundDesk}
 use Rattle.locks.specs.Stages.{isReading}
 use Rattle.desk.specs.Steps.{enterStep, getStep, putStep, LeaveResult, leaveStep}
 use Rattle.runs.specs.Run.{listed}
-use Rattle.replay.specs.Replay.{StepAnswer, granted, waits, value, stored, left, refused, enterLine, getLine, putLine, leaveLine}
-use Rattle.examples.specs.Table.{T}
+use Rattle.replay.specs.Replay.{StepAnswer, granted, waits, value, stored, left, refused, enterLine, getLine, putLine, leaveLine, stateOf, perform}
+use Rattle.examples.specs.Table.{T, bytes16, size, edge, enter1, leave}
 use Rattle.examples.specs.Rows.{Row, is, are, answer}
 
 -- T's intervals
@@ -337,4 +337,31 @@ desks =
     ∷ is ((leaveStep tableT (granting four 4294967294) 3 (replicate 32 0)) .desk .grants) 4294967294
     ∷ is ((enterStep tableT (granting four 4294967295) 5 Writing (0 ∷ []) 1) .desk .grants) 4294967295
     ∷ is ((leaveStep tableT (granting four 4294967295) 3 (replicate 32 0)) .desk .grants) 4294967295
+    ∷ []
+
+-- BYTES PERFORMED AS A RECORD over a hierarchy, on the desk `four` and ten values of 100
+abbrev pub performing : Hierarchy → List ℕ → List StepAnswer
+performing H bytes = (perform (stateOf H four (replicate 10 100)) bytes) .answer ∷ []
+
+-- a right step is performed; 4 is given to all else, before 1
+unfoldable pub records : List Row
+records =
+    -- party 3 leaves, and nobody is granted: 2 and 4 still conflict with 1. Party 5 reads 3 beside it
+    answer (performing tableT (leave 3)) (left [] ∷ [])
+    ∷ answer (performing tableT (enter1 5 1 3)) (granted 3 ∷ [])
+    -- kinds that are no step's: none, size, edge, 7
+    ∷ answer (performing tableT (bytes16 [])) (refused 4 ∷ [])
+    ∷ answer (performing tableT (size 10)) (refused 4 ∷ [])
+    ∷ answer (performing tableT (edge 0 1)) (refused 4 ∷ [])
+    ∷ answer (performing tableT (bytes16 (7 ∷ 3 ∷ []))) (refused 4 ∷ [])
+    -- a mode other than 1 or 2, no name, an unused byte that is not zero
+    ∷ answer (performing tableT (enter1 5 3 3)) (refused 4 ∷ [])
+    ∷ answer (performing tableT (bytes16 (3 ∷ 5 ∷ 1 ∷ 0 ∷ []))) (refused 4 ∷ [])
+    ∷ answer (performing tableT (set (leave 3) 15 1)) (refused 4 ∷ [])
+    -- 15 bytes, and 17
+    ∷ answer (performing tableT (take 15 (leave 3))) (refused 4 ∷ [])
+    ∷ answer (performing tableT (leave 3 ++ (0 ∷ []))) (refused 4 ∷ [])
+    -- lent no intervals: 1 to a right step, and still 4 to what is none
+    ∷ answer (performing (lent 10 [] T 11) (leave 3)) (refused 1 ∷ [])
+    ∷ answer (performing (lent 10 [] T 11) (bytes16 (7 ∷ 3 ∷ []))) (refused 4 ∷ [])
     ∷ []
