@@ -9,7 +9,7 @@ use Rattle.parties.specs.Sound.{soundParties}
 use Rattle.sweeps.specs.Sweeps.{offer, sweep}
 use Rattle.desk.specs.Steps.{enterStep, getStep, putStep, leaveStep}
 use Rattle.blocks.specs.Record.{enterRight, kinds, rowIn, recordRight}
-use Rattle.runs.specs.Run.{lend, lentTo, afterEnter, listed, afterLeave, moveCall, move}
+use Rattle.runs.specs.Run.{lend, restored, lentTo, afterEnter, afterGet, afterPut, listed, afterLeave, moveCall, move}
 use Rattle.examples.specs.Cases.{sameNumbers, asNumbers, sameAnswers}
 use Rattle.examples.specs.Rows.{right}
 use Rattle.examples.specs.Steps.{allStages, deskNumbers, steps, tables, desks, records}
@@ -30,6 +30,7 @@ unfolding allBelow anyBelow every any keep over foldFrom least greatest refusal 
 all-desks = refl
 
 pub all-records : every right records ≡ true
-unfolding allBelow anyBelow every any keep over foldFrom least greatest refusal someEdge closest soundParties enterStep offer sweep leaveStep
-    enterRight kinds rowIn recordRight lend lentTo afterEnter listed afterLeave moveCall move sameNumbers asNumbers sameAnswers right records
+unfolding allBelow anyBelow every any keep over foldFrom least greatest refusal someEdge closest soundParties enterStep getStep putStep offer sweep leaveStep
+    enterRight kinds rowIn recordRight lend restored lentTo afterEnter afterGet afterPut listed afterLeave moveCall move
+    sameNumbers asNumbers sameAnswers allStages deskNumbers right records
 all-records = refl

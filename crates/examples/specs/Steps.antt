@@ -18,7 +18,7 @@ use Rattle.locks.specs.Stages.{isReading}
 use Rattle.desk.specs.Steps.{enterStep, getStep, putStep, LeaveResult, leaveStep}
 use Rattle.runs.specs.Run.{listed}
 use Rattle.replay.specs.Replay.{StepAnswer, granted, waits, value, stored, left, refused, enterLine, getLine, putLine, leaveLine, stateOf, perform}
-use Rattle.examples.specs.Table.{T, bytes16, size, edge, enter1, leave}
+use Rattle.examples.specs.Table.{T, bytes16, size, edge, enter1, get, put, leave}
 use Rattle.examples.specs.Rows.{Row, is, are, answer}
 
 -- T's intervals
@@ -343,17 +343,28 @@ desks =
 abbrev pub performing : Hierarchy → List ℕ → List StepAnswer
 performing H bytes = (perform (stateOf H four (replicate 10 100)) bytes) .answer ∷ []
 
+-- the desk and the values after them
+abbrev pub performedTo : Hierarchy → List ℕ → List ℕ
+performedTo H bytes =
+    deskNumbers ((perform (stateOf H four (replicate 10 100)) bytes) .state .desk) ++ (perform (stateOf H four (replicate 10 100)) bytes) .state .values
+
 -- a right step is performed; 4 is given to all else, before 1
 unfoldable pub records : List Row
 records =
     -- party 3 leaves, and nobody is granted: 2 and 4 still conflict with 1. Party 5 reads 3 beside it
     answer (performing tableT (leave 3)) (left [] ∷ [])
     ∷ answer (performing tableT (enter1 5 1 3)) (granted 3 ∷ [])
+    -- 1 writes 5, [3,3]: 9 lies inside it
+    ∷ answer (performing tableT (get 1 9)) (value 100 ∷ [])
+    ∷ answer (performing tableT (put 1 9 77)) (stored ∷ [])
+    ∷ are (performedTo tableT (put 1 9 77)) (deskNumbers four ++ set (replicate 10 100) 9 77)
     -- kinds that are no step's: none, size, edge, 7
     ∷ answer (performing tableT (bytes16 [])) (refused 4 ∷ [])
     ∷ answer (performing tableT (size 10)) (refused 4 ∷ [])
     ∷ answer (performing tableT (edge 0 1)) (refused 4 ∷ [])
     ∷ answer (performing tableT (bytes16 (7 ∷ 3 ∷ []))) (refused 4 ∷ [])
+    -- desk and values are as they were
+    ∷ are (performedTo tableT (bytes16 (7 ∷ 3 ∷ []))) (deskNumbers four ++ replicate 10 100)
     -- a mode other than 1 or 2, no name, an unused byte that is not zero
     ∷ answer (performing tableT (enter1 5 3 3)) (refused 4 ∷ [])
     ∷ answer (performing tableT (bytes16 (3 ∷ 5 ∷ 1 ∷ 0 ∷ []))) (refused 4 ∷ [])

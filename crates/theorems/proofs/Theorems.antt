@@ -4,10 +4,11 @@
 use mathlib.Core.Path.{_≡_, refl, sym, ap}
 use mathlib.Core.Logic.{_⊎_}
 use mathlib.Core.List.{List, [], _∷_, _++_, map}
-use mathlib.Core.Bool.{true, false, cond}
+use mathlib.Core.Bool.{Bool, true, false, cond, _||_}
 use mathlib.Core.Option.{none}
 use Prim.Native.Nat.{ℕ, _*_, _≤_, _<_}
 use lib.Dec.{ltb}
+use borrow.Author.Tests.{lt-ltb}
 use lib.ListN.{length, getD, take, replicate}
 use Rattle.lists.specs.Lists.{every, any, over, Below}
 use Rattle.lists.specs.Answer.{done, refused}
@@ -20,12 +21,12 @@ use Rattle.intervals.specs.Cover.{lowAt, highAt, intervalAt, callInterval, cont
 use Rattle.blocks.specs.File.{wholeBlocks, readFile, writeFile}
 use Rattle.locks.specs.declared.Mode.{Mode}
 use Rattle.locks.specs.declared.Stage.the-variants.{Waiting, Holding}
-use Rattle.locks.specs.Lent.{Hierarchy, lent, lowIn, highIn, coverIn, lockOn}
+use Rattle.locks.specs.Lent.{Hierarchy, lent, lowIn, highIn, coverIn, tablesShort, lockOn}
 use Rattle.desk.specs.declared.Desk.{Desk}
 use Rattle.desk.specs.Desks.{freshDesk, stageAt}
 use Rattle.desk.specs.Sound.{soundDesk}
 use Rattle.desk.specs.Steps.{granted, enterRefusal, enterStep, getStep, putStep, leaveStep}
-use Rattle.runs.specs.Run.{Step, Event, start, Ran, run}
+use Rattle.runs.specs.Run.{Step, Event, State, start, Ran, run}
 use Rattle.runs.specs.Over.{startOver, runOver}
 use Rattle.history.specs.History.{history, grantedIn, bareEvent, opsIn, countedFrom, serialFinds, serialLeaves}
 use Rattle.history.specs.Serial.{Built, SerialSteps}
@@ -33,15 +34,16 @@ use Rattle.desk.specs.Answers.{Enters, Gets, Puts, Leaves}
 use Rattle.history.specs.Results.{Result, enter, get, put, leave, Made, Meets, deskFrom, valuesFrom, AllMeet, toldByAll, lastDesk, lastValues}
 use Rattle.soundness.specs.Refused.{refusedWith}
 use Rattle.file_laws.specs.Files.{eventsOf}
-use Rattle.replay.specs.Replay.{waits, stored, left, FileRun, granted as admitted, refused as denied, recordList, stepRecords, sizeOf, runFile}
+use Rattle.replay.specs.Replay.{waits, stored, left, FileRun, granted as admitted, refused as denied, recordList, stepRecords, sizeOf, answersOf, performAll, runFile}
 use Rattle.blocks.specs.File.{fileRecords}
 use Rattle.examples.specs.Cases.{intervals, cover, apart, listing, passes}
-use Rattle.examples.specs.Table.{T, shared, fileT, fileShared, starred}
+use Rattle.examples.specs.Table.{T, shared, bytes16, fileT, fileShared, starred}
 use Rattle.lists.proofs.Members.{In}
 use Rattle.interval_laws.proofs.Laws as laws
 use Rattle.intervals.proofs.Covers as closest-laws
 use Rattle.interval_laws.proofs.Covers as cover-laws
 use Rattle.block_laws.proofs.Laws as file-forms
+use Rattle.runs.proofs.Runs as ran-laws
 use Rattle.history.proofs.Serializable as serial
 use Rattle.history.proofs.Results as results
 use Rattle.file_laws.proofs.Laws as files
@@ -240,7 +242,7 @@ read-then-write-room = file-forms.read-then-write-room
 listing-most : (file : List ℕ) → Below 256 file → length (listingOf (runFile file)) ≤ 635040
 listing-most = fits.listing-most
 
--- and what the program writes of an opened file, 100 records at a time into 16,000 bytes, is one behind the other the listing, to the byte
+-- and the lines of an opened file's records, 100 at a time into 16,000 bytes (the parts that main.rt takes), are one behind the other the listing, to the byte
 program-listing : (file records edges places text : List ℕ) (n count total : ℕ) → 63488 ≤ length records → 7936 ≤ length edges → 512 ≤ length places → 16000 ≤ length text
     → let o = openFile file records edges places in o .answer ≡ done (record { n = n; edges = count; records = total }) → Below 256 (o .records)
     → inPieces (writtenOf (lent n (take (2 * n) (o .places)) (take (2 * count) (o .edges)) count) (record { desk = freshDesk; number = 1; at = 0 }) (replicate n 0) text)
@@ -287,6 +289,15 @@ serializable-over : (H : Hierarchy) (places scratch : List ℕ) → BuiltIn H pl
     → let ran = runOver H steps (startOver values) in Claims values (ran .events) (ran .state .values)
 serializable-over H places scratch b values sized steps = claims (serial.serializable-over H (built-in H places scratch b) values sized steps)
 
+-- and so from n values of zero
+demand-3-over : (H : Hierarchy) (places scratch : List ℕ) → BuiltIn H places scratch → (steps : List Step)
+    → let zeros : List ℕ = replicate (H .n) 0 in let ran = runOver H steps (startOver zeros) in Claims zeros (ran .events) (ran .state .values)
+demand-3-over H places scratch b steps = claims (serial.demand-3-over H (built-in H places scratch b) steps)
+
+-- no step changes the hierarchy
+run-hierarchy : (steps : List Step) (s : State) → (run steps s) .state .hierarchy ≡ s .hierarchy
+run-hierarchy = ran-laws.run-hierarchy
+
 -- its second form, of a host's own calls. A buffer is lent of a table: the table with anything behind it, or too short, whatever it holds
 abbrev Lent : List ℕ → List ℕ → Type 0
 Lent table buffer = (length buffer < length table) ⊎ (take (length table) buffer ≡ table)
@@ -319,6 +330,23 @@ all-met H d values [] c = tt
 all-met H d values (m ∷ ms) c =
     (c .0, c .1, met (lent (H .n) (m .intervals) (m .edges) (H .edgeCount)) d values (m .result) (c .2), all-met H (deskFrom (m .result)) (valuesFrom values (m .result)) ms (c .3))
 
+-- and back
+met-back : (K : Hierarchy) (d : Desk) (values : List ℕ) (r : Result) → Meets K d values r → Contract K d values r
+met-back K d values (enter party mode names nameCount r) c = c
+met-back K d values (get party node buffer r) c = c
+met-back K d values (put party node value buffer r after) c = c
+met-back K d values (leave party list r after) c = c
+
+all-back : (H : Hierarchy) (d : Desk) (values : List ℕ) (made : List Made) → AllMeet H d values made → Contracts H d values made
+unfolding AllMeet Contracts
+all-back H d values [] c = tt
+all-back H d values (m ∷ ms) c = (
+  c .0,
+  c .1,
+  met-back (lent (H .n) (m .intervals) (m .edges) (H .edgeCount)) d values (m .result) (c .2),
+  all-back H (deskFrom (m .result)) (valuesFrom values (m .result)) ms (c .3),
+)
+
 -- whatever calls were made, from a fresh desk and any n values, where each result meets its contract: the claims hold of these very results,
 results-serial : (H : Hierarchy) (places scratch : List ℕ) → BuiltIn H places scratch → (values : List ℕ) → length values ≡ H .n → (made : List Made)
     → Contracts H freshDesk values made → Claims values (toldByAll made) (lastValues values made)
@@ -331,18 +359,31 @@ results-demand-3 : (H : Hierarchy) (places scratch : List ℕ) → BuiltIn H pla
 results-demand-3 H places scratch b made c =
     let zeros : List ℕ = replicate (H .n) 0 in claims (results.results-demand-3 H (built-in H places scratch b) made (all-met H freshDesk zeros made c))
 
+-- a put that is lent too little is refused, and leaves what it was lent as it was, so that the values stay too (`leftIn`, history/specs/Results)
+short-put : (K : Hierarchy) (d : Desk) (party node value : ℕ) (buffer : List ℕ) → length buffer < K .n
+    → putStep K d party node value buffer ≡ record { desk = d; values = buffer; answer = refused 1 }
+short-put K d party node value buffer h = results.short-put K d party node value buffer (or-second (tablesShort K) (ltb (length buffer) (K .n)) (lt-ltb (length buffer) (K .n) h))
+  where
+    or-second : (a b : Bool) → b ≡ true → (a || b) ≡ true
+    or-second true b e = refl
+    or-second false b e = e
+
 -- there are such lists: each run is what some list of calls gives whose results meet the contracts
 run-made : (H : Hierarchy) (values : List ℕ) → length values ≡ H .n → (steps : List Step) → let ran = run steps (start H values) in
-    (made : List Made) × AllMeet H freshDesk values made
+    (made : List Made) × Contracts H freshDesk values made
     × (toldByAll made ≡ ran .events) × (lastDesk freshDesk made ≡ ran .state .desk) × (lastValues values made ≡ ran .state .values)
 run-made H values sized steps =
     let m = results.run-made H values sized steps in
-    (m .0, m .1, sym (ap (λ (x : Ran). x .events) (m .2)), sym (ap (λ (x : Ran). x .state .desk) (m .2)), sym (ap (λ (x : Ran). x .state .values) (m .2)))
+    (m .0, all-back H freshDesk values (m .0) (m .1), sym (ap (λ (x : Ran). x .events) (m .2)), sym (ap (λ (x : Ran). x .state .desk) (m .2)), sym (ap (λ (x : Ran). x .state .values) (m .2)))
 
 -- and of a file: where it is not refused, of its step records and the answers in its listing, from n zeros
 file-serial : (file : List ℕ) (ran : FileRun) → runFile file ≡ done ran
     → let records = recordList (fileRecords file) in Claims (replicate (sizeOf records) 0) (eventsOf (stepRecords records) (ran .answers)) (ran .values)
 file-serial file ran e = claims (files.file-serial file ran e)
+
+-- none of its steps is lost there: the events told from step records and answers are those of the run of these records
+events-are : (records : List (List ℕ)) (s : State) → (performAll s records) .events ≡ eventsOf records (answersOf (performAll s records))
+events-are = files.events-are
 
 -- SOUNDNESS. A fresh desk is sound, whatever the hierarchy,
 fresh-sound : (H : Hierarchy) → soundDesk H freshDesk ≡ true
@@ -389,6 +430,21 @@ results-sound H places scratch b values sized made c =
 tables : (T ≡ 0 ∷ 1 ∷ 0 ∷ 2 ∷ 1 ∷ 3 ∷ 1 ∷ 4 ∷ 2 ∷ 5 ∷ 2 ∷ 6 ∷ 5 ∷ 7 ∷ 6 ∷ 7 ∷ 6 ∷ 8 ∷ 7 ∷ 9 ∷ 9 ∷ 7 ∷ [])
     × (shared ≡ 0 ∷ 1 ∷ 0 ∷ 2 ∷ 0 ∷ 3 ∷ 0 ∷ 4 ∷ 4 ∷ 1 ∷ 4 ∷ 3 ∷ [])
 tables = (refl, refl)
+
+-- their files, each record with zeros behind it up to 16 bytes: a size record, the edges, and the steps of the listing; a writer of 4 and a writer of 2
+listed-files : (fileT
+    ≡ bytes16 (1 ∷ 10 ∷ [])
+    ∷ bytes16 (2 ∷ 0 ∷ 1 ∷ []) ∷ bytes16 (2 ∷ 0 ∷ 2 ∷ []) ∷ bytes16 (2 ∷ 1 ∷ 3 ∷ []) ∷ bytes16 (2 ∷ 1 ∷ 4 ∷ []) ∷ bytes16 (2 ∷ 2 ∷ 5 ∷ []) ∷ bytes16 (2 ∷ 2 ∷ 6 ∷ [])
+    ∷ bytes16 (2 ∷ 5 ∷ 7 ∷ []) ∷ bytes16 (2 ∷ 6 ∷ 7 ∷ []) ∷ bytes16 (2 ∷ 6 ∷ 8 ∷ []) ∷ bytes16 (2 ∷ 7 ∷ 9 ∷ []) ∷ bytes16 (2 ∷ 9 ∷ 7 ∷ [])
+    ∷ bytes16 (3 ∷ 1 ∷ 2 ∷ 1 ∷ 7 ∷ []) ∷ bytes16 (3 ∷ 2 ∷ 1 ∷ 1 ∷ 8 ∷ []) ∷ bytes16 (3 ∷ 3 ∷ 1 ∷ 1 ∷ 3 ∷ []) ∷ bytes16 (3 ∷ 4 ∷ 1 ∷ 2 ∷ 4 ∷ 5 ∷ [])
+    ∷ bytes16 (5 ∷ 1 ∷ 9 ∷ 0 ∷ 77 ∷ []) ∷ bytes16 (6 ∷ 1 ∷ []) ∷ bytes16 (4 ∷ 2 ∷ 9 ∷ []) ∷ bytes16 (3 ∷ 5 ∷ 2 ∷ 1 ∷ 4 ∷ []) ∷ bytes16 (5 ∷ 2 ∷ 9 ∷ 0 ∷ 5 ∷ [])
+    ∷ bytes16 (6 ∷ 5 ∷ []) ∷ [])
+    × (fileShared
+    ≡ bytes16 (1 ∷ 5 ∷ [])
+    ∷ bytes16 (2 ∷ 0 ∷ 1 ∷ []) ∷ bytes16 (2 ∷ 0 ∷ 2 ∷ []) ∷ bytes16 (2 ∷ 0 ∷ 3 ∷ []) ∷ bytes16 (2 ∷ 0 ∷ 4 ∷ []) ∷ bytes16 (2 ∷ 4 ∷ 1 ∷ []) ∷ bytes16 (2 ∷ 4 ∷ 3 ∷ [])
+    ∷ bytes16 (3 ∷ 1 ∷ 2 ∷ 1 ∷ 4 ∷ []) ∷ bytes16 (3 ∷ 2 ∷ 2 ∷ 1 ∷ 2 ∷ []) ∷ [])
+unfolding fileT fileShared
+listed-files = (refl, refl)
 
 -- and the ten cases
 all-starred : every passes
