@@ -9,7 +9,7 @@ ghost use Rattle.blocks.specs.Record.{kindOf, namesIn};
 ghost use Rattle.locks.specs.Locks.{modeNumbered};
 ghost use Rattle.locks.specs.Lent.{lent};
 ghost use Rattle.desk.specs.Answers.{enterMeaning, getMeaning, putMeaning, leaveMeaning};
-ghost use Rattle.replay.specs.Replay.{recordList, sizeOf, edgeTable, edgeCountOf, enterLine, getLine, putLine, enterCall, getCall, putCall, leaveCall, stateOf, isStep, performStep, performed, perform as performing};
+ghost use Rattle.replay.specs.Replay.{recordList, sizeOf, edgeTable, edgeCountOf, enterLine, getLine, putLine, enterCall, getCall, putCall, leaveCall, stateOf, isStep, perform as performing};
 ghost use Rattle.replay.specs.Answers.{EdgesInto, edgesInto, outcomeOf, Performs};
 ghost use Rattle.replay.specs.Inner.{recordAt, edgeOf, leftOutcome, PerformsCall, PerformsAny};
 use arrivals::PARTIES;
@@ -323,31 +323,6 @@ fn perform_leave(
     }
 }
 
-// A step record performed on the desk, by its kind: 3 enter, 4 get, 5 put, 6 leave.
-fn perform_step(
-    desk: Desk,
-    n: usize,
-    intervals: &[u16],
-    edges: &[u16],
-    edge_count: usize,
-    bytes: &[u8],
-    values: &mut [u64],
-) -> Step
-    ensures { λ r. ⌜ Performs r (now (values .exit)) (performed (performStep (stateOf (lent n (now (intervals .entry)) (now (edges .entry)) «edge_count») desk (now (values .entry))) (now (bytes .entry)))) ⌝ }
-{
-    let kind = octets::byte(bytes, 0);
-    if kind == 3 {
-        return perform_enter(desk, n, intervals, edges, edge_count, bytes);
-    }
-    if kind == 4 {
-        return perform_get(desk, n, intervals, edges, edge_count, bytes, values);
-    }
-    if kind == 5 {
-        return perform_put(desk, n, intervals, edges, edge_count, bytes, values);
-    }
-    perform_leave(desk, n, intervals, edges, edge_count, bytes)
-}
-
 // Whether bytes are a record of 16 bytes that is right, and a step.
 fn is_step(bytes: &[u8]) -> bool
     ensures { λ r. ⌜ r ≡ isStep (now (bytes .entry)) ⌝ }
@@ -361,7 +336,8 @@ fn is_step(bytes: &[u8]) -> bool
     3 <= octets::byte(bytes, 0)
 }
 
-// Any bytes performed on the desk as a record of a file: refused with 4 where they are no step, or one that is not right.
+// Any bytes performed on the desk as a record of a file: refused with 4 where they are no step, or one that is not right; else by kind, 3 enter, 4 get,
+// 5 put, 6 leave.
 pub fn perform(
     desk: Desk,
     n: usize,
@@ -380,5 +356,15 @@ pub fn perform(
             parties: [0u8; PARTIES],
         };
     }
-    perform_step(desk, n, intervals, edges, edge_count, bytes, values)
+    let kind = octets::byte(bytes, 0);
+    if kind == 3 {
+        return perform_enter(desk, n, intervals, edges, edge_count, bytes);
+    }
+    if kind == 4 {
+        return perform_get(desk, n, intervals, edges, edge_count, bytes, values);
+    }
+    if kind == 5 {
+        return perform_put(desk, n, intervals, edges, edge_count, bytes, values);
+    }
+    perform_leave(desk, n, intervals, edges, edge_count, bytes)
 }
