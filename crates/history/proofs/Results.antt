@@ -4,15 +4,15 @@ use mathlib.Core.Path.{_≡_, refl, sym, ap, subst, _∙_}
 use mathlib.Core.Logic.{_⊎_, inl, inr}
 use mathlib.Core.List.{List, [], _∷_, _++_}
 use mathlib.Core.Bool.{Bool, true, false, _||_}
-use mathlib.Core.Option.{Option, none, some}
+use mathlib.Core.Option.{Option}
 use Prim.Native.Nat.{ℕ, _*_, _≤_, _<_}
 use native.Mathlib.Omega.{arith}
 use lib.Dec.{eqb, ltb}
-use lib.ListN.{length, getD, take, drop, replicate, length-take, length-set, length-replicate, drop-of-length-le, take-append-drop}
+use lib.ListN.{length, getD, take, drop, replicate, length-take, length-replicate, drop-of-length-le, take-append-drop}
 use lib.Seq.{take-length, take-take, take-append-seam, length-take-le}
 use borrow.Author.Tests.{eqb-true, ltb-true, ltb-false, lt-ltb, le-ltb}
 use Rattle.lists.specs.Lists.{over}
-use Rattle.lists.specs.Answer.{Answer, done, refused, refusal}
+use Rattle.lists.specs.Answer.{Answer, done, refused}
 use Rattle.lists.proofs.Bools.{bool}
 use Rattle.lists.proofs.Refusals.{refused-here}
 use Rattle.hierarchy.specs.Hierarchy.{edgesOf}
@@ -27,12 +27,12 @@ use Rattle.desk.specs.declared.PutAnswer.the-variants.{Stored, Refused as PutRe
 use Rattle.desk.specs.declared.LeaveAnswer.{LeaveAnswer}
 use Rattle.desk.specs.declared.LeaveAnswer.the-variants.{Left, Refused as LeaveRefused}
 use Rattle.desk.specs.Desks.{freshDesk}
-use Rattle.desk.specs.Steps.{Admission, granted, waits, PutResult, putOwn, valueChecks}
+use Rattle.desk.specs.Steps.{Admission, granted, waits, PutResult}
 use Rattle.desk.specs.Steps.{enterUnless, enterStep, getUnless, getStep, putUnless, putStep, leaveUnless, leaveStep}
 use Rattle.desk.specs.Answers.{enterMeaning, getMeaning, putMeaning, leaveMeaning, getCase}
 use Rattle.runs.specs.Run.{Lending, whole, part, lend, restored, Call, enter, get, put, leave, Step, lentTo, Event, entered, got, stored, left, State, start}
 use Rattle.runs.specs.Run.{Moved, afterEnter, afterGet, afterPut, listed, afterLeave, moveCall, move, alsoRan, run}
-use Rattle.runs.proofs.Lends.{restored-lend}
+use Rattle.runs.proofs.Lends.{restored-lend, put-length}
 use Rattle.history.specs.Serial.{Built, Serial, SerialSteps}
 use Rattle.history.specs.Results.{LentOf, leftIn, Result, enter as entering, get as getting, put as putting, leave as leaving, Made, Meets}
 use Rattle.history.specs.Results.{deskFrom, valuesFrom, toldBy, AllMeet, toldByAll, lastDesk, lastValues}
@@ -102,20 +102,12 @@ module _ (K : Hierarchy) (d : Desk) (party : ℕ) where
   unfolding leaveStep
   short-leave list e = ap (λ (o : Option ℕ). leaveUnless o d party list) (refused-here _ _ (rw e refl))
 
--- A PUT leaves as many values as it was lent
-put-length : (K : Hierarchy) (d : Desk) (party node value : ℕ) (values : List ℕ) → length ((putStep K d party node value values) .values) ≡ length values
-unfolding putStep
-put-length K d party node value values = by (refusal (valueChecks K d party node values (putOwn d party)))
-  where
-    by : (o : Option ℕ) → length ((putUnless o d node value values) .values) ≡ length values
-    by none = length-set values node value
-    by (some k) = refl
-
 -- TWO HIERARCHIES AS LENT that no step tells apart: they are one, or each is too short
 abbrev Alike : Hierarchy → Hierarchy → Type 0
 Alike K K′ = (K ≡ K′) ⊎ ((tablesShort K ≡ true) × (tablesShort K′ ≡ true))
 
-or-second : (a b : Bool) → b ≡ true → (a || b) ≡ true
+-- or by its second part
+pub or-second : (a b : Bool) → b ≡ true → (a || b) ≡ true
 or-second true b e = refl
 or-second false b e = e
 

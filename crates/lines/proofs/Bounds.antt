@@ -35,10 +35,9 @@ use Rattle.desk.specs.Steps.{putOwn, StepFacts, stepChecks, valueChecks, free, 
 use Rattle.desk.specs.Steps.{getUnless, getStep, putUnless, putStep, afterLeaving, leaveRefusal, leaveUnless, leaveStep}
 use Rattle.desk.proofs.Facts.{step-facts}
 use Rattle.parties.proofs.Clauses.{clauses, sound-few}
-use Rattle.replay.proofs.Outcomes.{put-length}
 use Rattle.replay.specs.Replay.{StepAnswer, granted, refused, enterLine, getLine, putLine, leaveLine, answerIn, enterCall, getCall, putCall, leaveCall, stepOf, performStep}
 use Rattle.runs.specs.Run.{lend, Call, lentTo, State, listed, afterEnter, afterGet, afterPut, afterLeave, moveCall, move}
-use Rattle.runs.proofs.Lends.{restored-full}
+use Rattle.runs.proofs.Lends.{restored-full, put-length}
 use Rattle.texts.specs.Text.{decimal, space, spaced, answerText}
 use Rattle.texts.proofs.Puts.{decimal-most}
 

@@ -29,9 +29,13 @@ realInterval low high = leb 1 low && leb low high && leb high 256
 abbrev pub isMode : ℕ → Bool
 isMode m = eqb m 1 || eqb m 2
 
+-- one of the two: reading, or writing
+abbrev pub modeWhen : Bool → Mode
+modeWhen reading = cond reading Reading Writing
+
 -- the mode of a number that is one: 1 reading, 2 writing. What is no mode is refused before it comes here
 abbrev pub modeNumbered : ℕ → Mode
-modeNumbered m = cond (eqb m 1) Reading Writing
+modeNumbered m = modeWhen (eqb m 1)
 
 -- the number of a mode
 abbrev pub modeNumber : Mode → ℕ

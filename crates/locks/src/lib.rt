@@ -5,7 +5,7 @@ ghost use lib.Dec.{ltb};
 ghost use Rattle.lists.specs.Lists.{anyBelow, any};
 ghost use Prim.Native.Nat.{_*_, _≤_};
 ghost use lib.ListN.{length, take};
-ghost use Rattle.locks.specs.Locks.{bothReading, conflict as conflicting, realInterval, isMode, isHold, modeNumbered, modeNumber, lockNumbered, conflictCall};
+ghost use Rattle.locks.specs.Locks.{bothReading, conflict as conflicting, realInterval, isMode, isHold, modeWhen, modeNumber, lockNumbered, conflictCall};
 ghost use Rattle.locks.specs.Stages.{held, isOut, isWaiting, againstHolder, againstWaiter, ofLock, isReading, readsOnly};
 ghost use Rattle.locks.specs.Lent.{lent, spanned, coverIn, tablesShort, intervalWrong, namesWrong, lockOn, coverRight, insideLock, insideHold};
 ghost use Rattle.locks.specs.Inner.{outside};
@@ -265,11 +265,11 @@ pub fn inside_hold(intervals: &[u16], node: usize, s: Stage) -> bool
     }
 }
 
-// The mode of a number that is one: 1 reading, 2 writing.
-fn mode_numbered(m: u32) -> Mode
-    ensures { λ r. ⌜ r ≡ modeNumbered m ⌝ }
+// Reading where it is so, else writing: of a number m that is a mode, `m == 1` tells.
+pub fn mode_when(reading: bool) -> Mode
+    ensures { λ r. ⌜ r ≡ modeWhen reading ⌝ }
 {
-    if m == 1 {
+    if reading {
         return Mode::Reading;
     }
     Mode::Writing
@@ -313,7 +313,7 @@ fn lock_numbered(m: u32, low: u32, high: u32) -> Lock
     requires { ⌜ isHold m low high ≡ true ⌝ }
     ensures { λ r. ⌜ r ≡ lockNumbered m low high ⌝ }
 {
-    let mode = mode_numbered(m);
+    let mode = mode_when(m == 1);
     Lock {
         mode,
         cover: 0,

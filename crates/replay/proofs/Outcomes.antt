@@ -5,10 +5,10 @@ use mathlib.Core.Bool.{Bool, true, false}
 use mathlib.Core.Option.{Option, none, some}
 use Prim.Native.Nat.{ℕ}
 use lib.Dec.{eqb}
-use lib.ListN.{length, take, drop, replicate, length-set}
+use lib.ListN.{length, take, drop, replicate}
 use lib.Seq.{take-append-seam}
 use Rattle.lists.specs.Lists.{over}
-use Rattle.lists.specs.Answer.{Answer, done, refused as denied, refusal}
+use Rattle.lists.specs.Answer.{Answer, done, refused as denied}
 use Rattle.blocks.specs.Record.{kindOf, partyIn, modeIn, nameCountIn, namesIn, nodeIn, valueIn}
 use Rattle.desk.specs.declared.Desk.{Desk}
 use Rattle.locks.specs.declared.Mode.{Mode}
@@ -19,10 +19,10 @@ use Rattle.desk.specs.declared.LeaveStep.{LeaveStep}
 use Rattle.locks.specs.Locks.{modeNumbered}
 use Rattle.locks.specs.Lent.{Hierarchy}
 use Rattle.desk.specs.Steps.{granted as admitted, Admission, waits as queued, EnterResult, GetResult, PutResult, LeaveResult, afterLeaving}
-use Rattle.desk.specs.Steps.{leaveUnless, leaveRefusal, enterStep, getStep, putUnless, putStep, leaveStep}
+use Rattle.desk.specs.Steps.{leaveUnless, leaveRefusal, enterStep, getStep, putStep, leaveStep}
 use Rattle.desk.specs.Answers.{Enters, Gets, Puts, Leaves, enterMeaning, getMeaning, putMeaning, leaveMeaning}
 use Rattle.runs.specs.Run.{lend, Call, leave, lentTo, State, Moved, afterEnter, afterGet, afterPut, listed, afterLeave, moveCall, move}
-use Rattle.runs.proofs.Lends.{restored-full}
+use Rattle.runs.proofs.Lends.{restored-full, put-length}
 use Rattle.runs.proofs.Exact.{call-exact}
 use Rattle.runs.proofs.Runs.{move-hierarchy}
 use Rattle.replay.specs.declared.Outcome.{Outcome}
@@ -83,15 +83,6 @@ module _ (d : Desk) (party : ℕ) where
       let granted : List ℕ = (afterLeaving d party) .granted in
       let same : take (length granted) (over granted (replicate 32 0)) ≡ granted = take-append-seam granted (drop (length granted) (replicate 32 0)) in
       (sym (ap (λ (t : List ℕ). outcomeOf (left t)) same), sym (ap (λ (t : List ℕ). partiesOf (left t)) same))
-
--- a put leaves as many values as it was lent
-pub put-length : (H : Hierarchy) (d : Desk) (party node number : ℕ) (values : List ℕ) → length ((putStep H d party node number values) .values) ≡ length values
-unfolding putStep
-put-length H d party node number values = by (refusal _)
-  where
-    by : (o : Option ℕ) → length ((putUnless o d node number values) .values) ≡ length values
-    by none = length-set values node number
-    by (some k) = refl
 
 -- WHAT EACH STEP OF A FILE DOES, from what the step of the desk hands back and the fields that were read
 module _ (H : Hierarchy) (d : Desk) (bytes : List ℕ) (party : ℕ) (at-party : party ≡ partyIn bytes) where

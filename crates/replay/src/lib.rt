@@ -6,7 +6,6 @@ ghost use lib.Dec.{eqb};
 ghost use Rattle.lists.specs.Lists.{over, one};
 ghost use Rattle.octets.specs.Writes.{overAt};
 ghost use Rattle.blocks.specs.Record.{kindOf, namesIn};
-ghost use Rattle.locks.specs.Locks.{modeNumbered};
 ghost use Rattle.locks.specs.Lent.{lent};
 ghost use Rattle.desk.specs.Answers.{enterMeaning, getMeaning, putMeaning, leaveMeaning};
 ghost use Rattle.replay.specs.Replay.{recordList, sizeOf, edgeTable, edgeCountOf, enterLine, getLine, putLine, enterCall, getCall, putCall, leaveCall, stateOf, isStep, perform as performing};
@@ -19,7 +18,6 @@ use desk::EnterAnswer;
 use desk::GetAnswer;
 use desk::LeaveAnswer;
 use desk::PutAnswer;
-use locks::Mode;
 
 // What a step of a file answers, one value for the four kinds. `Left` counts the granted parties, which stand first in `Step::parties`.
 pub enum Outcome {
@@ -153,16 +151,6 @@ fn put_names(bytes: &[u8], names: &mut [u16]) -> usize
     count
 }
 
-// The mode of a number that is one: 1 reading, 2 writing.
-fn mode_numbered(m: u32) -> Mode
-    ensures { λ r. ⌜ r ≡ modeNumbered m ⌝ }
-{
-    if m == 1 {
-        return Mode::Reading;
-    }
-    Mode::Writing
-}
-
 // What enter answered, as an outcome.
 fn entered(a: EnterAnswer) -> Outcome
     ensures { λ r. ⌜ r ≡ outcomeOf (enterLine (enterMeaning a)) ⌝ }
@@ -217,7 +205,7 @@ fn perform_enter(
     ensures { λ r. ⌜ PerformsAny r (lent n (now (intervals .entry)) (now (edges .entry)) «edge_count») desk (enterCall (now (bytes .entry))) ⌝ }
 {
     let party = octets::byte(bytes, 1) as usize;
-    let mode = mode_numbered(octets::byte(bytes, 2) as u32);
+    let mode = locks::mode_when(octets::byte(bytes, 2) == 1);
     let name_count = octets::byte(bytes, 3) as usize;
     let mut names = [0u16; 255];
     let k = put_names(bytes, &mut names);

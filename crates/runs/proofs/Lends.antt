@@ -1,12 +1,16 @@
 -- What a step is lent of a table, and the table afterwards. Assumes nothing.
 use mathlib.Core.Path.{_≡_, refl, ap}
 use mathlib.Core.List.{List, [], _∷_, _++_}
+use mathlib.Core.Option.{Option, none, some}
 use Prim.Native.Nat.{ℕ, zero, suc, _+_, _*_, _≤_, _<_}
 use native.Mathlib.Omega.{arith}
 use lib.ListN.{length, getD, set, take, drop, length-take, length-set, List·getD-append}
 use lib.Seq.{getD-take, take-length, take-at}
 use Rattle.lists.specs.Lists.{over}
+use Rattle.lists.specs.Answer.{refusal}
 use Rattle.locks.specs.Lent.{Hierarchy, lowIn, highIn}
+use Rattle.desk.specs.declared.Desk.{Desk}
+use Rattle.desk.specs.Steps.{putOwn, valueChecks, putUnless, putStep}
 use Rattle.runs.specs.Run.{Lending, whole, part, lend, restored, Step, lentTo}
 
 -- a place of what is lent, where it is long enough
@@ -58,3 +62,12 @@ module _ (H : Hierarchy) (two-each : length (H .intervals) ≡ 2 * H .n) (x : St
   pub high-lent : highIn (lentTo x H) node ≡ highIn H node
   unfolding lentTo
   high-lent = lend-at (H .intervals) (x .intervals) (2 * node + 1) (omega arith) (omega arith)
+
+-- A PUT leaves as many values as it was lent
+pub put-length : (H : Hierarchy) (d : Desk) (party node value : ℕ) (values : List ℕ) → length ((putStep H d party node value values) .values) ≡ length values
+unfolding putStep
+put-length H d party node value values = by (refusal (valueChecks H d party node values (putOwn d party)))
+  where
+    by : (o : Option ℕ) → length ((putUnless o d node value values) .values) ≡ length values
+    by none = length-set values node value
+    by (some k) = refl

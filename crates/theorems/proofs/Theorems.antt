@@ -4,7 +4,7 @@
 use mathlib.Core.Path.{_≡_, refl, sym, ap}
 use mathlib.Core.Logic.{_⊎_}
 use mathlib.Core.List.{List, [], _∷_, _++_, map}
-use mathlib.Core.Bool.{Bool, true, false, cond, _||_}
+use mathlib.Core.Bool.{true, false, cond}
 use mathlib.Core.Option.{none}
 use Prim.Native.Nat.{ℕ, _*_, _≤_, _<_}
 use lib.Dec.{ltb}
@@ -362,11 +362,7 @@ results-demand-3 H places scratch b made c =
 -- a put that is lent too little is refused, and leaves what it was lent as it was, so that the values stay too (`leftIn`, history/specs/Results)
 short-put : (K : Hierarchy) (d : Desk) (party node value : ℕ) (buffer : List ℕ) → length buffer < K .n
     → putStep K d party node value buffer ≡ record { desk = d; values = buffer; answer = refused 1 }
-short-put K d party node value buffer h = results.short-put K d party node value buffer (or-second (tablesShort K) (ltb (length buffer) (K .n)) (lt-ltb (length buffer) (K .n) h))
-  where
-    or-second : (a b : Bool) → b ≡ true → (a || b) ≡ true
-    or-second true b e = refl
-    or-second false b e = e
+short-put K d party node value buffer h = results.short-put K d party node value buffer (results.or-second (tablesShort K) (ltb (length buffer) (K .n)) (lt-ltb (length buffer) (K .n) h))
 
 -- there are such lists: each run is what some list of calls gives whose results meet the contracts
 run-made : (H : Hierarchy) (values : List ℕ) → length values ≡ H .n → (steps : List Step) → let ran = run steps (start H values) in

@@ -5,7 +5,7 @@ use Rattle.parties.proofs.row_lock.Statement.{statement}
 use Rattle.parties.proofs.row_lock.Tie as tie
 
 returns : tie.Need-returns
-returns c = rw (c .row-mode .ensures) refl
+returns c = rw (c .mode-when .ensures) refl
 
 pub row-lock-spec : {M : Type 1} → statement M
 row-lock-spec =

@@ -42,8 +42,8 @@ returns c =
     let names : take (p .put-names .result) put ≡ namesIn bytes
     = ap (λ (k : ℕ). take k put) (p .put-names .ensures .0) ∙ ap (take (length (namesIn bytes))) (p .put-names .ensures .1) ∙ take-over (namesIn bytes) _ in
     entered-performs (lent (z .n) (z .intervals .now) (z .edges .now) (z .edge-count)) (z .desk) bytes (m .before .before .byte .result) (m .before .before .byte .ensures)
-    (m .mode-numbered .result) (take (p .put-names .result) put) (p .before .before .byte3 .result)
-    (m .mode-numbered .ensures ∙ ap modeNumbered (m .before .byte2 .ensures)) names (p .before .before .byte3 .ensures)
+    (m .mode-when .result) (take (p .put-names .result) put) (p .before .before .byte3 .result)
+    (m .mode-when .ensures ∙ ap modeNumbered (m .before .byte2 .ensures)) names (p .before .before .byte3 .ensures)
     (e .enter .result) (c .before .entered .result) (e .enter .ensures) (c .before .entered .ensures)
 
 pub perform-enter-spec : {M : Type 1} → statement M
@@ -53,7 +53,6 @@ perform-enter-spec =
     (λ c κs. search needs)
     (λ c. search needs)
     (λ c κs. search needs)
-    (λ c. search needs)
     (λ c κs. search needs)
     (λ c κs. search needs)
     (λ c. search needs)
