@@ -11,8 +11,9 @@ use borrow.Author.Tests.{lt-ltb, le-ltb}
 use Rattle.lists.specs.Lists.{over}
 use Rattle.lists.specs.Answer.{done, refused, Check, _when_, refusal, numberOf}
 use Rattle.hierarchy.specs.Hierarchy.{edgesOf, hierarchyChecks, Legal}
+use Rattle.intervals.specs.Numbering.{numbering}
 use Rattle.intervals.specs.Intervals.{intervalTable}
-use Rattle.intervals.specs.Build.{buildShort, buildStep}
+use Rattle.intervals.specs.Build.{buildShort, buildStep, numbersShort, numbersStep}
 use Rattle.lists.proofs.Bools.{bool}
 use Rattle.lists.proofs.Refusals.{refused-here, refused-later}
 
@@ -52,7 +53,7 @@ none-of (c ∷ cs) f e =
     (λ h. absurd (let s = ap numberOf (refused-here c cs h) in omega (arith, f .0)))
     (λ h. let s = refused-later c cs h in s ∙ none-of cs (f .1) (e ∙ ap numberOf s))
 
-some-of : (o : Option ℕ) (k : ℕ) → k ≡ numberOf o → (k ≡ 0 → ⊥) → o ≡ some k
+pub some-of : (o : Option ℕ) (k : ℕ) → k ≡ numberOf o → (k ≡ 0 → ⊥) → o ≡ some k
 some-of none k e d = absurd (d e)
 some-of (some j) k e d = ap some (sym e)
 
@@ -101,3 +102,38 @@ module _ (n : ℕ) (edges : List ℕ) (count : ℕ) where
       left-built legal places′ p =
           let r = refused-later (1 when buildShort n edges count places scratch) (hierarchyChecks n edges count) h ∙ legal in
           rw (r, h) (refl, (p, wiped))
+
+-- ---- the numbers alone
+
+module _ (n : ℕ) (edges : List ℕ) (count : ℕ) (places : List ℕ) where
+  pub few-places : length places < n → numbersShort n edges count places ≡ true
+  few-places h = rw (lt-ltb (length places) n h) refl
+
+  pub few-edges : n ≤ length places → length edges / 2 < count → numbersShort n edges count places ≡ true
+  few-edges g h = rw (le-ltb (length places) n g, lt-ltb (length edges) (2 * count) (omega arith)) refl
+
+  pub many-enough : n ≤ length places → count ≤ length edges / 2 → numbersShort n edges count places ≡ false
+  many-enough g h = rw (le-ltb (length places) n g, le-ltb (length edges) (2 * count) (omega arith)) refl
+
+  -- what is left after 1
+  pub numbers-short : numbersShort n edges count places ≡ true
+      → (refused 1 ≡ numbersStep n edges count places .answer) × (places ≡ numbersStep n edges count places .places)
+  unfolding numbersStep
+  numbers-short h = rw (refused-here (1 when numbersShort n edges count places) (hierarchyChecks n edges count) h) (refl, refl)
+
+  module _ (h : numbersShort n edges count places ≡ false) where
+    -- after another refusal
+    pub numbers-refused : (k : ℕ) → k ≡ numberOf (refusal (hierarchyChecks n edges count)) → (k ≡ 0 → ⊥)
+        → (refused k ≡ numbersStep n edges count places .answer) × (places ≡ numbersStep n edges count places .places)
+    unfolding numbersStep
+    numbers-refused k e d =
+        let r = refused-later (1 when numbersShort n edges count places) (hierarchyChecks n edges count) h ∙ some-of (refusal (hierarchyChecks n edges count)) k e d in
+        rw r (refl, refl)
+
+    -- after numbering
+    pub numbers-done : Legal n edges count → (places′ : List ℕ) → places′ ≡ over (numbering n (edgesOf edges count)) places
+        → (done tt ≡ numbersStep n edges count places .answer) × (places′ ≡ numbersStep n edges count places .places)
+    unfolding numbersStep
+    numbers-done legal places′ p =
+        let r = refused-later (1 when numbersShort n edges count places) (hierarchyChecks n edges count) h ∙ legal in
+        rw r (refl, p)

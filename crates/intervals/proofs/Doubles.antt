@@ -8,7 +8,7 @@ use lib.Seq.{drop-cons, drop-set-lt, getD-set-same, getD-take, length-take-le}
 use Rattle.intervals.specs.Inner.{orMost, doubled}
 
 -- two stores, side by side
-two-set : (l : List ℕ) (i low high : ℕ) → 2 * i + 1 < length l → drop (2 * i) (set (set l (2 * i + 1) high) (2 * i) low) ≡ low ∷ high ∷ drop (2 * (i + 1)) l
+pub two-set : (l : List ℕ) (i low high : ℕ) → 2 * i + 1 < length l → drop (2 * i) (set (set l (2 * i + 1) high) (2 * i) low) ≡ low ∷ high ∷ drop (2 * (i + 1)) l
 two-set l i low high h =
     let a : length (set l (2 * i + 1) high) ≡ length l = length-set l (2 * i + 1) high in
     let b : length (set (set l (2 * i + 1) high) (2 * i) low) ≡ length l = length-set (set l (2 * i + 1) high) (2 * i) low ∙ a in

@@ -14,7 +14,7 @@ use Rattle.intervals.specs.Inner.{isBetter, improved, turnAt, Ok, Kept, 
 use Rattle.hierarchy.specs.declared.Ends.{Ends}
 use Rattle.lists.proofs.Bools.{bool, not-both, or-left, or-right}
 use Rattle.hierarchy.proofs.EdgeLoops.{edges-all, edge-here, turn}
-use Rattle.lists.proofs.Passes.{went-most}
+use Rattle.lists.proofs.Passes.{went-both}
 use Rattle.intervals.proofs.Relaxes.{kept-start, kept-trans, kept-one, still-best, weight-set}
 
 -- ---- the lows and the highs of a table
@@ -117,11 +117,6 @@ module _ (t : List ℕ) (p c : ℕ) (hp : p < length (lows t)) (hc : c < length 
       rw (lows-high t p v, highs-high t p v) (omega arith)
   high-went false v e h = refl
 
--- one change after another
-went-both : (a b : Bool) (t u v : List ℕ) → Went tableWeight a t u → Went tableWeight b u v → Went tableWeight (a || b) t v
-went-both true b t u v w x = omega (arith, went-most tableWeight b u v x)
-went-both false b t u v w x = rw w at x
-
 -- ---- a pass
 
 -- a pass takes edges of the table
@@ -222,7 +217,7 @@ module _ (back : Bool) (edges : List ℕ) (count : ℕ) (table₀ : List ℕ) (f
           higher =
               rw (ap highs ht ∙ b .1 ∙ ap (improved true (ends .parent) (ends .child)) (ap highs lt ∙ a .1))
               (kept-one true (edgesOf edges count) (highs table₀) (highs table) (ends .parent) (ends .child) here (k .higher));
-          went = went-both (changed || low) high table₀ table′ table″ (went-both changed low table₀ table table′ (k .went) w) x;
+          went = went-both tableWeight (changed || low) high table₀ table′ table″ (went-both tableWeight changed low table₀ table table′ (k .went) w) x;
           even = even-more table′ table″ low high la ha w x;
         }
 

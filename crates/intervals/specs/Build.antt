@@ -8,6 +8,7 @@ use lib.ListN.{length, replicate}
 use Rattle.lists.specs.Lists.{over}
 use Rattle.lists.specs.Answer.{Answer, done, refused, _when_, refusal, answerOf, roomAfter}
 use Rattle.hierarchy.specs.Hierarchy.{edgesOf, hierarchyChecks}
+use Rattle.intervals.specs.Numbering.{numbering}
 use Rattle.intervals.specs.Intervals.{intervalTable}
 use Rattle.intervals.specs.declared.BuildAnswer.{BuildAnswer}
 use Rattle.intervals.specs.declared.BuildAnswer.the-variants.{Built, Refused}
@@ -46,3 +47,24 @@ buildStep n edges edgeCount places scratch =
 abbrev pub buildMeaning : BuildAnswer → Answer (Unit {0})
 buildMeaning Built = done tt
 buildMeaning (Refused k) = refused k
+
+-- THE NUMBERS ALONE, which the plain engine takes (02, point 2): what numbering leaves, its answer and the lent places
+pub record NumbersResult : Type 0 where
+  pub answer : Answer (Unit {0})
+  pub places : List ℕ
+
+-- 1: a lent buffer is shorter than needed, which is n places and two numbers an edge
+abbrev pub numbersShort : ℕ → List ℕ → ℕ → List ℕ → Bool
+numbersShort n edges edgeCount places = ltb (length places) n || ltb (length edges) (2 * edgeCount)
+
+-- numbering looks at 1 and 5 to 9, as building
+abbrev pub numbersRefusal : ℕ → List ℕ → ℕ → List ℕ → Option ℕ
+numbersRefusal n edges edgeCount places = refusal (1 when numbersShort n edges edgeCount places ∷ hierarchyChecks n edges edgeCount)
+
+-- numbering: its answer, and the number of each node from the first place on, 0 where it has none
+unfoldable pub numbersStep : ℕ → List ℕ → ℕ → List ℕ → NumbersResult
+numbersStep n edges edgeCount places =
+    record {
+      answer = answerOf (numbersRefusal n edges edgeCount places) tt;
+      places = roomAfter (numbersRefusal n edges edgeCount places) (numbering n (edgesOf edges edgeCount)) places;
+    }

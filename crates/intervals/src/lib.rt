@@ -7,7 +7,7 @@ ghost use Rattle.lists.specs.Lists.{over, Went, zeros};
 ghost use Rattle.hierarchy.specs.Hierarchy.{edgesOf};
 ghost use Rattle.intervals.specs.Numbering.{at as walkAt, walk as walked, numbering};
 ghost use Rattle.intervals.specs.Intervals.{intervalTable};
-ghost use Rattle.intervals.specs.Build.{buildStep, buildMeaning};
+ghost use Rattle.intervals.specs.Build.{buildStep, buildMeaning, numbersStep};
 ghost use Rattle.intervals.specs.Cover.{intervalAt, callInterval, contains as containing, width as widthOf, closer as isCloser, closest as closestOf, coverOf};
 ghost use Rattle.hierarchy.specs.Inner.{Edges};
 ghost use Rattle.intervals.specs.Inner.{Ready, Fresh, isBetter, improved, turnAt, Kept, Settled, Best, lows, highs, tableWeight, orMost, doubled, Writable};
@@ -86,6 +86,26 @@ fn number(edges: &[u16], edge_count: usize, marks: &mut [u8], numbers: &mut [u16
     hierarchy::clear(marks);
     clear_numbers(numbers);
     walk(0, 1, edges, edge_count, marks, numbers);
+}
+
+// Numbers n nodes: the number of each, 0 where it has none, goes into the first places. The marks of the walk are its own.
+pub fn numbers(n: usize, edges: &[u16], edge_count: usize, places: &mut [u16]) -> BuildAnswer
+    ensures { λ r. ⌜ buildMeaning r ≡ (numbersStep n (now (edges .entry)) «edge_count» (now (places .entry))) .answer ⌝ }
+    ensures { λ _. ⌜ now (places .exit) ≡ (numbersStep n (now (edges .entry)) «edge_count» (now (places .entry))) .places ⌝ }
+{
+    if places.len() < n {
+        return BuildAnswer::Refused(1);
+    }
+    if edges.len() / 2 < edge_count {
+        return BuildAnswer::Refused(1);
+    }
+    let refusal = hierarchy::refused(n, edges, edge_count);
+    if refusal != 0 {
+        return BuildAnswer::Refused(refusal);
+    }
+    let mut marks = [0u8; hierarchy::NODES];
+    number(edges, edge_count, &mut marks[..n], &mut places[..n]);
+    BuildAnswer::Built
 }
 
 // A number, with the largest u16 in the place of none.

@@ -1,7 +1,7 @@
 -- Passes that go on until one changes nothing: what a pass says by its answer. Assumes nothing.
 use mathlib.Core.Path.{_≡_, refl, ap}
 use mathlib.Core.List.{List}
-use mathlib.Core.Bool.{Bool, true, false}
+use mathlib.Core.Bool.{Bool, true, false, _||_}
 use Prim.Native.Nat.{ℕ, _≤_, _<_}
 use native.Mathlib.Omega.{arith}
 use Rattle.lists.specs.Lists.{oneIf, Went}
@@ -16,6 +16,11 @@ module _ (measure : List ℕ → ℕ) where
   -- a change after any pass is a change
   pub went-on : (b : Bool) (l m m′ : List ℕ) → Went measure b l m → measure m′ < measure m → measure m′ < measure l
   went-on b l m m′ w h = omega (arith, went-most b l m w)
+
+  -- one change after another
+  pub went-both : (a b : Bool) (l m m′ : List ℕ) → Went measure a l m → Went measure b m m′ → Went measure (a || b) l m′
+  went-both true b l m m′ w x = omega (arith, went-most b m m′ x)
+  went-both false b l m m′ w x = rw w at x
 
   -- what falls while passes go on
   pub went-less : (on b : Bool) (l m : List ℕ) → on ≡ true → Went measure b l m → oneIf b (measure m) < oneIf on (measure l)
