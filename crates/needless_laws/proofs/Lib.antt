@@ -1,3 +1,5 @@
 pub mod Meets
 pub mod Names
 pub mod Ways
+pub mod Needless
+pub mod Counts

@@ -3,7 +3,7 @@ use mathlib.Core.Path.{_≡_, refl, sym, _∙_}
 use mathlib.Core.List.{List, [], _∷_}
 use mathlib.Core.Bool.{Bool, true, false, _&&_}
 use Prim.Native.Nat.{ℕ}
-use Rattle.lists.specs.Lists.{any, anyBelow}
+use Rattle.lists.specs.Lists.{any}
 use Rattle.lists.proofs.Bools.{bool, not-both, and-left, and-right, and-both, or-either}
 use Rattle.lists.proofs.Bounded.{any-stop}
 use Rattle.lists.proofs.Members.{In, head, tail}
