@@ -3,3 +3,4 @@ pub mod Names
 pub mod Ways
 pub mod Needless
 pub mod Counts
+pub mod Examples
