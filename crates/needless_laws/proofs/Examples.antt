@@ -18,14 +18,16 @@ use Rattle.runs.specs.Run.{lend, restored, lentTo, afterEnter, afterGet, afterP
 use Rattle.replay.specs.Replay.{eachRecord, edgeTable}
 use Rattle.trees.specs.Tree.{parentCount}
 use Rattle.needless.specs.Waits.{waitsOfSteps, waitsOfRecords, waitsOf}
+use Rattle.examples.specs.Cases.{sameNumbers}
+use Rattle.examples.specs.Rows.{right}
 use Rattle.examples.specs.Table.{fileT, fileShared}
 use Rattle.needless_laws.specs.Visits.{visitsNameOne}
-use Rattle.needless_laws.specs.Figures.{hasWaits, asks, right, figures}
+use Rattle.needless_laws.specs.Figures.{four, figures}
 
 pub all-figures : every right figures ≡ true
 unfolding allBelow anyBelow every any keep count over foldFrom least greatest refusal children someEdge spread spreads reach edgeTwice
     someUnreached meet visit inside walk numbering numbersAmong lowOf highOf intervalsFrom intervalTable closest words sums
     fletcher enterRight kinds rowIn recordRight inOrder afterRecord afterRecords countRight headRight afterBlock recordsIn blockBody blockOf afterBlocks
     recordsOf notBlocks blocksOf soundParties enterStep getStep putStep offer sweep leaveStep eachRecord edgeTable lend restored lentTo afterEnter afterGet afterPut listed afterLeave
-    moveCall move parentCount waitsOfSteps waitsOfRecords waitsOf visitsNameOne hasWaits asks right fileT fileShared figures
+    moveCall move parentCount waitsOfSteps waitsOfRecords waitsOf visitsNameOne four sameNumbers right fileT fileShared figures
 all-figures = refl

@@ -1,5 +1,4 @@
--- What it says of edges and ways that no node has several parents: an edge is told by its child, and of two nodes that reach a third one reaches the other.
--- Assumes nothing.
+-- What it says of edges and ways that no node has several parents: an edge is told by its child, and of two nodes that reach a third one reaches the other. Assumes nothing.
 use mathlib.Core.Path.{_≡_, refl, sym, subst}
 use mathlib.Core.Logic.{_⊎_, inl, inr}
 use mathlib.Core.List.{List, [], _∷_}
