@@ -11,7 +11,7 @@ use lib.Seq.{length-take-le, take-all, take-at}
 use borrow.Author.Tests.{eq-eqb, lt-leb, le-ltb}
 use Rattle.lists.specs.Lists.{every, over}
 use Rattle.lists.specs.Answer.{Answer, done, refused, Check, _when_, refusal, answerOf, roomAfter}
-use Rattle.hierarchy.specs.Hierarchy.{edgesOf, sizeWrong, hierarchyChecks}
+use Rattle.hierarchy.specs.Hierarchy.{edgesOf, sizeWrong, hierarchyChecks, Legal}
 use Rattle.intervals.specs.Intervals.{intervalTable}
 use Rattle.intervals.specs.declared.BuildAnswer.{BuildAnswer}
 use Rattle.intervals.specs.declared.BuildAnswer.the-variants.{Built, Refused as BuildRefused}
@@ -351,6 +351,13 @@ pub record Ready (file : List ℕ) (n count total : ℕ) (records edges places :
   pub edges-most : 2 * count ≤ 7936
   pub records-most : 16 * total ≤ 63488
   pub right : every isRecord (recordList (take (16 * total) records)) ≡ true
+  -- what stands in the places is the file's own, and neither the file nor its hierarchy is refused
+  pub read : take (16 * total) records ≡ fileRecords file
+  pub size : n ≡ sizeOf (fileRows file)
+  pub built : lent n (take (2 * n) places) (take (2 * count) edges) count ≡ builtOf (fileRows file)
+  pub file-fine : refusal (fileChecks file) ≡ none
+  pub built-fine : refusal (builtChecks (fileRows file)) ≡ none
+  pub legal : Legal n (take (2 * count) edges) count
 
 module _ (file records edges places : List ℕ) (a : OpenAnswer) {records′ edges′ places′ : List ℕ} (long₁ : 63488 ≤ length records) (long₂ : 7936 ≤ length edges) (long₃ : 512 ≤ length places)
     (e : Opens a records′ edges′ places′ (openFile file records edges places)) where
@@ -430,4 +437,14 @@ module _ (file records edges places : List ℕ) (a : OpenAnswer) {records′ edg
           edges-most = few-edges file a judge n count total t;
           records-most = few-records file a judge n count total t;
           right = ap (λ (l : List ℕ). every isRecord (recordList l)) records-front ∙ records-right file (file-right file a judge n count total t);
+          read = records-front;
+          size = sym size-is;
+          built = same;
+          file-fine = file-right file a judge n count total t;
+          built-fine = built-right file a judge n count total t;
+          legal =
+              ap (λ (m : ℕ). refusal (hierarchyChecks m (take (2 * count) edges′) count)) (sym size-is)
+              ∙ ap (λ (g : List ℕ). refusal (hierarchyChecks (sizeOf (fileRows file)) g count)) edges-front
+              ∙ ap (λ (k : ℕ). refusal (hierarchyChecks (sizeOf (fileRows file)) (edgeTable (fileRows file)) k)) (sym edges-are)
+              ∙ built-right file a judge n count total t;
         }

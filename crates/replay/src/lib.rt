@@ -124,7 +124,7 @@ fn wide(x: u8) -> usize
 }
 
 // How many names a record has: as many as its name count says, if it is as long.
-fn names_in(bytes: &[u8]) -> usize
+pub fn names_in(bytes: &[u8]) -> usize
     ensures { λ r. ⌜ (r ≡ length (namesIn (now (bytes .entry)))) × (r ≤ 255) ⌝ }
 {
     let name_count = wide(octets::byte(bytes, 3));

@@ -63,14 +63,16 @@ module _ (H : Hierarchy) (d : Desk) (party : ℕ) (mode : Mode) (names : List �
   rooted : Rooted (H .n) (H .intervals)
   rooted = right-rooted H (facts .intervals-right)
 
-  some-name : 1 ≤ length called
-  some-name =
+  -- it has a name,
+  pub enter-some : 1 ≤ length called
+  enter-some =
       let long = ltb-false (length names) nameCount (facts .own-lent) in
       let right = not-false (leb 1 nameCount && leb nameCount 8) (or-left (not (leb 1 nameCount && leb nameCount 8)) (any (λ node. not (ltb node (H .n))) called) named) in
       omega (arith, length-take-le nameCount names long, leb-true 1 nameCount (and-left (leb 1 nameCount) (leb nameCount 8) right))
 
-  nodes : (r : ℕ) → In r called → r < H .n
-  nodes r i =
+  -- and each is a node
+  pub enter-nodes : (r : ℕ) → In r called → r < H .n
+  enter-nodes r i =
       let right = or-right (not (leb 1 nameCount && leb nameCount 8)) (any (λ node. not (ltb node (H .n))) called) named in
       bool (ltb r (H .n))
       (ltb-true r (H .n))
@@ -91,7 +93,7 @@ module _ (H : Hierarchy) (d : Desk) (party : ℕ) (mode : Mode) (names : List �
 
   -- the lock is on the cover: of all nodes whose interval contains the call's the narrowest, of equally narrow ones the lowest number;
   pub enter-cover : IsCover (H .n) (H .intervals) (callInterval (H .intervals) called) (lock .cover)
-  enter-cover = by called some-name nodes
+  enter-cover = by called enter-some enter-nodes
     where
       by : (ns : List ℕ) → 1 ≤ length ns → ((r : ℕ) → In r ns → r < H .n) → IsCover (H .n) (H .intervals) (callInterval (H .intervals) ns) (coverIn H ns)
       by [] l f = absurd (omega arith)
@@ -99,7 +101,7 @@ module _ (H : Hierarchy) (d : Desk) (party : ℕ) (mode : Mode) (names : List �
 
   -- and where the call names one node, however often, the lock has that node's interval
   pub enter-one : (x : ℕ) → ((r : ℕ) → In r called → r ≡ x) → (lock .low ≡ lowIn H x) × (lock .high ≡ highIn H x)
-  enter-one x same = let e = by called some-name nodes same in (ap (λ (a : Interval). a .low) e, ap (λ (a : Interval). a .high) e)
+  enter-one x same = let e = by called enter-some enter-nodes same in (ap (λ (a : Interval). a .low) e, ap (λ (a : Interval). a .high) e)
     where
       by : (ns : List ℕ) → 1 ≤ length ns → ((r : ℕ) → In r ns → r < H .n) → ((r : ℕ) → In r ns → r ≡ x) → intervalAt (H .intervals) (coverIn H ns) ≡ intervalAt (H .intervals) x
       by [] l f g = absurd (omega arith)

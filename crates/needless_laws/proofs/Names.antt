@@ -1,0 +1,110 @@
+-- Visits that name one node: each party's lock, held or waited for, has the interval of its one name. What keeps this. Assumes nothing.
+use mathlib.Core.Path.{_≡_, sym, ap, _∙_}
+use mathlib.Core.List.{List, [], _∷_}
+use mathlib.Core.Bool.{Bool, true, false, not, _||_}
+use mathlib.Core.Option.{none}
+use Prim.Native.Nat.{ℕ, zero, suc, _<_}
+use lib.Dec.{eqb}
+use lib.ListN.{length, getD, set, take}
+use lib.Seq.{getD-set-same, getD-set-other}
+use borrow.Author.Tests.{eqb-true, eqb-false}
+use Rattle.lists.specs.Lists.{every}
+use Rattle.lists.proofs.Bools.{bool, and-left, and-right}
+use Rattle.lists.proofs.Members.{In, in-nil, in-cons}
+use Rattle.lists.proofs.Distinct.{place-in}
+use Rattle.locks.specs.declared.Mode.{Mode}
+use Rattle.locks.specs.declared.Lock.{Lock}
+use Rattle.locks.specs.declared.Stage.{Stage}
+use Rattle.locks.specs.declared.Stage.the-variants.{Out, Waiting, Holding}
+use Rattle.locks.specs.Lent.{Hierarchy, lowIn, highIn, coverIn, lockOn}
+use Rattle.parties.specs.declared.Entry.{Entry}
+use Rattle.parties.specs.Parties.{entryOf, stageIn, meetsHolder, meetsWaiter}
+use Rattle.sweeps.specs.Sweeps.{Sweep, offerIf, offerTo, offer, sweep}
+use Rattle.desk.specs.declared.Desk.{Desk}
+use Rattle.desk.specs.Steps.{enterRefusal}
+use Rattle.soundness.proofs.Changes.{stage-same, stage-other}
+use Rattle.soundness.proofs.Covers.{enter-some, enter-nodes, enter-one}
+use Rattle.needless.specs.Waits.{namesOf}
+use Rattle.needless_laws.specs.Visits.{oneNode}
+
+-- THE INVARIANT of one lock: the names are one node, however often, and the lock has the node's interval
+pub record NamedBy (H : Hierarchy) (l : Lock) (names : List ℕ) : Type 0 where
+  pub node : ℕ
+  pub below : node < H .n
+  pub low : l .low ≡ lowIn H node
+  pub high : l .high ≡ highIn H node
+  pub there : In node names
+  pub same : (r : ℕ) → In r names → r ≡ node
+
+-- of what a party holds or waits for; nothing is asked of a party that is out
+abbrev pub StageNamed : Hierarchy → Stage → List ℕ → Type 0
+StageNamed H Out names = Unit {0}
+StageNamed H (Waiting l) names = NamedBy H l names
+StageNamed H (Holding l) names = NamedBy H l names
+
+-- of all parties
+abbrev pub AllNamed : Hierarchy → List Entry → List (List ℕ) → Type 0
+AllNamed H entries named = (party : ℕ) → StageNamed H (stageIn entries party) (namesOf named party)
+
+-- A CALL that names one node. A test of every element holds at each
+every-in : (p : ℕ → Bool) (xs : List ℕ) → every p xs ≡ true → (x : ℕ) → In x xs → p x ≡ true
+unfolding every
+every-in p [] e x i = in-nil i
+every-in p (y ∷ ys) e x i =
+    in-cons i (λ q. ap p (sym q) ∙ and-left (p y) (every p ys) e) (every-in p ys (and-right (p y) (every p ys) e) x)
+
+-- names that are one node are the first one
+one-node : (names : List ℕ) → oneNode names ≡ true → (r : ℕ) → In r names → r ≡ getD names 0 0
+one-node [] e r i = in-nil i
+one-node (name ∷ names) e r i = in-cons i sym (λ j. eqb-true r name (every-in (λ other. eqb other name) names e r j))
+
+-- where the call is not refused, its lock has the interval of the one name
+pub call-named : (H : Hierarchy) (d : Desk) (party : ℕ) (mode : Mode) (names : List ℕ) (nameCount : ℕ) → enterRefusal H d party names nameCount ≡ none
+    → oneNode (take nameCount names) ≡ true → NamedBy H (lockOn H mode (coverIn H (take nameCount names))) (take nameCount names)
+call-named H d party mode names nameCount fine one =
+    let x : ℕ = getD (take nameCount names) 0 0 in
+    let there : In x (take nameCount names) = place-in (take nameCount names) 0 (enter-some H d party mode names nameCount fine) in
+    let same = one-node (take nameCount names) one in
+    let interval = enter-one H d party mode names nameCount fine x same in
+    record { node = x; below = enter-nodes H d party mode names nameCount fine x there; low = interval .0; high = interval .1; there = there; same = same }
+
+-- THE DESK. A party stored with its names
+pub named-set : (H : Hierarchy) (entries : List Entry) (named : List (List ℕ)) (p : ℕ) (x : Stage) (names : List ℕ)
+    → p < length entries → p < length named → StageNamed H x names → AllNamed H entries named
+    → AllNamed H (set entries p (entryOf x)) (set named p names)
+named-set H entries named p x names he hn new old q =
+    bool (eqb q p)
+    (λ e. rw (eqb-true q p e, stage-same entries p x he, getD-set-same named p names [] hn) new)
+    (λ e. rw (stage-other entries p q x (eqb-false q p e), getD-set-other named p q names [] (eqb-false q p e)) (old q))
+
+-- what holds of each party's stage, and of the stage stored at its party, holds of each after the store
+stored-at : (P : ℕ → Stage → Type 0) (entries : List Entry) (p q : ℕ) (x : Stage) → P p x → ((r : ℕ) → P r (stageIn entries r)) → P q (stageIn (set entries p (entryOf x)) q)
+stored-at P [] p q x h f = f q
+stored-at P (e ∷ es) zero zero x h f = h
+stored-at P (e ∷ es) zero (suc q) x h f = f (suc q)
+stored-at P (e ∷ es) (suc p) zero x h f = f zero
+stored-at P (e ∷ es) (suc p) (suc q) x h f = stored-at (λ k. P (suc k)) es p q x h (λ k. f (suc k))
+
+module _ (H : Hierarchy) (named : List (List ℕ)) where
+  -- a stage stored for a party whose names stay: a leave, or a waiter granted
+  pub named-kept : (entries : List Entry) (p : ℕ) (x : Stage) → StageNamed H x (namesOf named p) → AllNamed H entries named → AllNamed H (set entries p (entryOf x)) named
+  named-kept entries p x new old q = stored-at (λ r y. StageNamed H y (namesOf named r)) entries p q x new old
+
+  -- LEAVE'S PASS moves locks unchanged: a waiter granted holds what it waited for
+  offer-named : (s : Sweep) (p : ℕ) → AllNamed H (s .entries) named → AllNamed H ((offer s p) .entries) named
+  unfolding offer
+  offer-named s p old = by (stageIn (s .entries) p) (old p)
+    where
+      test : (l : Lock) (b : Bool) → NamedBy H l (namesOf named p) → AllNamed H ((offerIf b s p l) .entries) named
+      test l true h = named-kept (s .entries) p (Holding l) h old
+      test l false h = old
+
+      by : (x : Stage) → StageNamed H x (namesOf named p) → AllNamed H ((offerTo s p x) .entries) named
+      by Out h = old
+      by (Waiting l) h = test l (not (meetsHolder (s .entries) l || meetsWaiter (s .entries) (s .stay) l)) h
+      by (Holding l) h = old
+
+  pub sweep-named : (parties : List ℕ) (s : Sweep) → AllNamed H (s .entries) named → AllNamed H ((sweep s parties) .entries) named
+  unfolding sweep
+  sweep-named [] s old = old
+  sweep-named (p ∷ parties) s old = sweep-named parties (offer s p) (offer-named s p old)
