@@ -15,6 +15,10 @@ bool false f g = g refl
 pub not-both : {P : Type 0} (b : Bool) → b ≡ true → b ≡ false → P
 not-both b p q = absurd (let z : _≡_ {A = ℕ} 0 1 = cc in omega arith)
 
+-- two tests that hold together
+pub both-ways : (a b : Bool) → (a ≡ true → b ≡ true) → (b ≡ true → a ≡ true) → a ≡ b
+both-ways a b f g = bool a (λ t. t ∙ sym (f t)) (λ t. bool b (λ u. not-both a (g u) t) (λ u. t ∙ sym u))
+
 pub and-left : (a b : Bool) → (a && b) ≡ true → a ≡ true
 and-left true b e = refl
 and-left false b e = e

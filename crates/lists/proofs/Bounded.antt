@@ -1,7 +1,7 @@
 -- Tests at every number below a bound, and at some: the turns of a loop that counts up, and what the whole says of each. Assumes nothing.
 use mathlib.Core.Path.{_≡_, refl, sym, ap, _∙_}
 use mathlib.Core.List.{List, [], _∷_, _++_}
-use mathlib.Core.Bool.{Bool, true, false, _||_, and-false, or-true, or-false, or-assoc}
+use mathlib.Core.Bool.{Bool, true, false, _&&_, _||_, and-false, or-true, or-false, or-assoc}
 use Prim.Native.Nat.{ℕ, zero, suc, _+_, _≤_, _<_}
 use native.Mathlib.Numerals.{add-one}
 use native.Mathlib.Omega.{arith}
@@ -83,6 +83,25 @@ module _ (p : ℕ → Bool) where
 
   pub any-end : (n i : ℕ) → anyBelow i p ≡ false → i ≤ n → n ≤ i → false ≡ anyBelow n p
   any-end n i a h g = sym (ap (λ (k : ℕ). anyBelow k p) (let e : n ≡ i = omega arith in e) ∙ a)
+
+-- tests that are the same at each number below n
+pub same-any : (p q : ℕ → Bool) (n : ℕ) → ((i : ℕ) → i < n → p i ≡ q i) → anyBelow n p ≡ anyBelow n q
+unfolding anyBelow
+same-any p q zero e = refl
+same-any p q (suc n) e = ap (_|| p n) (same-any p q n (λ i h. e i (omega arith))) ∙ ap (anyBelow n q ||_) (e n (omega arith))
+
+pub same-all : (p q : ℕ → Bool) (n : ℕ) → ((i : ℕ) → i < n → p i ≡ q i) → allBelow n p ≡ allBelow n q
+unfolding allBelow
+same-all p q zero e = refl
+same-all p q (suc n) e = ap (_&& p n) (same-all p q n (λ i h. e i (omega arith))) ∙ ap (allBelow n q &&_) (e n (omega arith))
+
+-- one that holds from no m on holds below n where it does below m
+pub any-further : (p : ℕ → Bool) (m k : ℕ) → ((i : ℕ) → m ≤ i → p i ≡ false) → anyBelow (k + m) p ≡ anyBelow m p
+unfolding anyBelow
+any-further p m zero f = ap (λ (n : ℕ). anyBelow n p) (let e : 0 + m ≡ m = omega arith in e)
+any-further p m (suc k) f =
+    let e : suc k + m ≡ suc (k + m) = omega arith in
+    rw e (ap (anyBelow (k + m) p ||_) (f (k + m) (omega arith)) ∙ or-false (anyBelow (k + m) p) ∙ any-further p m k f)
 
 -- a test at some of the first k elements, by their places
 any-snoc : {A : Type 0} (f : A → Bool) (xs : List A) (x : A) → any f (xs ++ (x ∷ [])) ≡ any f xs || f x

@@ -32,7 +32,7 @@ pub enum Stage {
 }
 
 // Whether both are reading.
-fn both_reading(a: Mode, b: Mode) -> bool
+pub fn both_reading(a: Mode, b: Mode) -> bool
     ensures { λ r. ⌜ r ≡ bothReading a b ⌝ }
 {
     match a {

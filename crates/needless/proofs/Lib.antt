@@ -1,0 +1,4 @@
+pub mod Names
+pub mod Ways
+pub mod Tallies
+pub mod Files

@@ -108,10 +108,6 @@ file-told file = by (refusal (fileChecks file))
 pub waits-counted : (file : List ℕ) (run : FileRun) → runFile file ≡ done run → (waitsOf file) .all ≡ count isWaits (run .answers)
 waits-counted file run e = (rw e at (file-told file)) .0
 
--- a refused file or hierarchy counts as no wait
-pub refused-waits : (file : List ℕ) (k : ℕ) → runFile file ≡ denied k → waitsOf file ≡ noWaits
-refused-waits file k e = rw e at (file-told file)
-
 -- the second is at most the first
 pub waits-most : (file : List ℕ) → (waitsOf file) .needless ≤ (waitsOf file) .all
 waits-most file = by (runFile file) (file-told file)

@@ -1,20 +1,16 @@
 -- The reaches of named nodes meet just where those of two of them do. Assumes nothing.
-use mathlib.Core.Path.{_≡_, refl, sym, _∙_}
+use mathlib.Core.Path.{_≡_, refl, _∙_}
 use mathlib.Core.List.{List, [], _∷_}
 use mathlib.Core.Bool.{Bool, true, false, _&&_}
 use Prim.Native.Nat.{ℕ}
 use Rattle.lists.specs.Lists.{any}
-use Rattle.lists.proofs.Bools.{bool, not-both, and-left, and-right, and-both, or-either}
+use Rattle.lists.proofs.Bools.{not-both, both-ways, and-left, and-right, and-both, or-either}
 use Rattle.lists.proofs.Bounded.{any-stop}
 use Rattle.lists.proofs.Members.{In, head, tail}
 use Rattle.lists.proofs.Distinct.{any-some, any-in}
 use Rattle.hierarchy.specs.Hierarchy.{flagged, reach, inReach}
 use Rattle.needless.specs.Waits.{reachesMeet}
 use Rattle.needless_laws.specs.Visits.{nodesMeet}
-
--- tests that imply each other are the same
-pub both-ways : (a b : Bool) → (a ≡ true → b ≡ true) → (b ≡ true → a ≡ true) → a ≡ b
-both-ways a b f g = bool a (λ t. t ∙ sym (f t)) (λ t. bool b (λ u. not-both a (g u) t) (λ u. t ∙ sym u))
 
 -- a test that holds at some element holds at a member
 any-member : (p : ℕ → Bool) (xs : List ℕ) → any p xs ≡ true → (x : ℕ) × In x xs × (p x ≡ true)

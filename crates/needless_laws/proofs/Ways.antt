@@ -1,5 +1,5 @@
 -- In a tree, among visits that name one node each, a call is free just where nobody stands in its way. Assumes nothing.
-use mathlib.Core.Path.{_≡_, refl, sym, ap, _∙_, fun-ext}
+use mathlib.Core.Path.{_≡_, refl, sym, ap, _∙_}
 use mathlib.Core.List.{List}
 use mathlib.Core.Bool.{true, not, _&&_, _||_, or-false, and-comm}
 use Prim.Native.Nat.{ℕ, _<_, max}
@@ -8,8 +8,8 @@ use lib.Dec.{eqb, leb}
 use lib.ListN.{getD}
 use borrow.Author.Tests.{eqb-false, ne-eqb, leb-true, le-leb, not-true}
 use Rattle.lists.specs.Lists.{anyBelow}
-use Rattle.lists.proofs.Bools.{and-left, and-right, and-both}
-use Rattle.lists.proofs.Bounded.{any-stop}
+use Rattle.lists.proofs.Bools.{both-ways, and-left, and-right, and-both}
+use Rattle.lists.proofs.Bounded.{any-stop, same-any}
 use Rattle.lists.proofs.Distinct.{any-some}
 use Rattle.hierarchy.specs.Hierarchy.{edgesOf, Reach, reach, flagged}
 use Rattle.hierarchy.proofs.Legals.{promised}
@@ -30,7 +30,7 @@ use Rattle.trees.specs.Tree.{Tree}
 use Rattle.trees.proofs.Trees.{share-exactly}
 use Rattle.needless.specs.Waits.{namesOf, reachesMeet, inWay, isNeedless}
 use Rattle.needless_laws.specs.Visits.{nodesMeet}
-use Rattle.needless_laws.proofs.Meets.{both-ways, meet-one}
+use Rattle.needless_laws.proofs.Meets.{meet-one}
 use Rattle.needless_laws.proofs.Names.{NamedBy, StageNamed, AllNamed}
 
 -- a tree, with the intervals that building writes
@@ -107,4 +107,4 @@ module _ (H : Hierarchy) (built : BuiltTree H) where
   pub needless-free : (d : Desk) (named : List (List ℕ)) (l : Lock) (names : List ℕ) → NamedBy H l names → AllNamed H (d .entries) named
       → isNeedless H d named (l .mode) names ≡ free d l
   needless-free d named l names mine locks =
-      ap (λ p. not (anyBelow 32 p)) (sym (fun-ext (λ party. in-way l names mine (stageAt d party) (namesOf named party) (locks party))))
+      ap not (sym (same-any _ _ 32 (λ party _. in-way l names mine (stageAt d party) (namesOf named party) (locks party))))

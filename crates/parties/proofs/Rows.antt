@@ -9,7 +9,7 @@ use lib.ListN.{length, getD, set, take, length-set}
 use lib.Seq.{getD-set-same, getD-set-other}
 use Rattle.lists.specs.Lists.{allBelow, anyBelow}
 use Rattle.lists.proofs.Bools.{not-both}
-use Rattle.lists.proofs.Bounded.{below-more, all-of, any-one-more, any-take}
+use Rattle.lists.proofs.Bounded.{below-more, all-of, any-one-more, any-take, same-any, same-all}
 use Rattle.locks.specs.declared.Mode.{Mode}
 use Rattle.locks.specs.declared.Mode.the-variants.{Reading, Writing}
 use Rattle.locks.specs.declared.Lock.{Lock}
@@ -22,17 +22,6 @@ use Rattle.parties.specs.Parties.{stageIn, meetsHolder, meetsWaiter}
 use Rattle.arrivals.specs.Arrivals.{listedIn}
 use Rattle.parties.specs.Sound.{heldUp}
 use Rattle.parties.specs.Inner.{rowOf, putRow, meetsRow, rowsApart, withHold, afterHold, withCall, heldBy}
-
--- TESTS BELOW A NUMBER: equal at each place, they are equal
-same-any : (p q : ℕ → Bool) (n : ℕ) → ((i : ℕ) → i < n → p i ≡ q i) → anyBelow n p ≡ anyBelow n q
-unfolding anyBelow
-same-any p q zero e = refl
-same-any p q (suc n) e = ap (_|| p n) (same-any p q n (λ i h. e i (omega arith))) ∙ ap (anyBelow n q ||_) (e n (omega arith))
-
-same-all : (p q : ℕ → Bool) (n : ℕ) → ((i : ℕ) → i < n → p i ≡ q i) → allBelow n p ≡ allBelow n q
-unfolding allBelow
-same-all p q zero e = refl
-same-all p q (suc n) e = ap (_&& p n) (same-all p q n (λ i h. e i (omega arith))) ∙ ap (allBelow n q &&_) (e n (omega arith))
 
 -- none fails where not one holds
 not-or : (a b : Bool) → (not a && not b) ≡ not (a || b)

@@ -21,6 +21,7 @@ use Rattle.intervals.proofs.Builds.{some-of, zeroed}
 use Rattle.intervals.proofs.Extremes.{numbering-long}
 use Rattle.reach_sets.specs.Sets.{setTable}
 use Rattle.reach_sets.specs.Plain.{setsShort, setsStep, plainShort, plainStep}
+use Rattle.reach_sets.proofs.Fills.{table-long}
 
 module _ (n : ℕ) (edges : List ℕ) (count : ℕ) where
   -- ---- the sets
@@ -55,6 +56,13 @@ module _ (n : ℕ) (edges : List ℕ) (count : ℕ) where
       sets-done legal words′ p =
           let r = refused-later (1 when setsShort n edges count words) (hierarchyChecks n edges count) h ∙ legal in
           rw r (refl, p)
+
+      -- into just as many words as are needed
+      pub sets-are : Legal n edges count → length words ≡ 4 * n → setsStep n edges count words .words ≡ setTable n (edgesOf edges count)
+      unfolding setsStep over
+      sets-are legal long =
+          let r = refused-later (1 when setsShort n edges count words) (hierarchyChecks n edges count) h ∙ legal in
+          rw (r, drop-of-length-le words {i = length (setTable n (edgesOf edges count))} (omega (arith, table-long n (edgesOf edges count), long))) (append-nil (setTable n (edgesOf edges count)))
 
   -- ---- building
   module _ (places words : List ℕ) where

@@ -22,3 +22,7 @@ endLine holders waiters grants = ((endWord ++ decimal holders) ++ (space ++ deci
 abbrev pub listing : Answer FileRun → List ℕ
 listing (done run) = stepLines 1 (run .answers) ++ endLine (run .holders) (run .waiters) (run .grants)
 listing (denied k) = (refusedWord ++ decimal k) ++ newline
+
+-- THE REPORT (02, point 2) prints on one line two whole numbers, all waits and needless ones, a space between them
+abbrev pub reportLine : ℕ → ℕ → List ℕ
+reportLine all needless = (decimal all ++ space) ++ (decimal needless ++ newline)

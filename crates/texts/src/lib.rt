@@ -1,4 +1,4 @@
-// The lines of a listing, put into lent bytes as far as they fit: numbers, words, a step's line, the last line.
+// The lines of a listing and of the report, put into lent bytes as far as they fit: numbers, words, a step's line, the last line.
 ghost use mathlib.Core.Path.{_≡_};
 ghost use mathlib.Core.List.{_++_};
 ghost use Prim.Native.Nat.{_-_};
@@ -8,7 +8,7 @@ ghost use Rattle.lists.specs.Answer.{refused};
 ghost use Rattle.replay.specs.Answers.{stepMeaning};
 ghost use Rattle.replay.specs.Replay.{isHolding, holdersAt};
 ghost use Rattle.texts.specs.Text.{decimal, space, leftWord, spaced, answerText};
-ghost use Rattle.texts.specs.Lines.{stepLine, endLine, listing};
+ghost use Rattle.texts.specs.Lines.{stepLine, endLine, listing, reportLine};
 ghost use Rattle.texts.specs.Pages.{Puts};
 use arrivals::PARTIES;
 use desk::Desk;
@@ -163,4 +163,12 @@ pub fn put_refused(k: u8, text: &mut [u8]) -> usize
 {
     let behind = put_word_number(b"refused ", k as u64, 0, text);
     put_bytes(b"\n", behind, text)
+}
+
+// Puts the one line of the report over a file.
+pub fn put_report(all: usize, needless: usize, text: &mut [u8]) -> usize
+    ensures { λ r. ⌜ Puts 0 (reportLine all needless) (now (text .entry)) (now (text .exit)) r ⌝ }
+{
+    let behind = put_number_word(all as u64, b" ", 0, text);
+    put_number_word(needless as u64, b"\n", behind, text)
 }

@@ -61,17 +61,18 @@ write-spans-requires c κs = let s = c .before .before .before .before .before .
     places-long s ∙ ap (λ (k : ℕ). 2 * k) (sym (numbers-long s))
 
 returns : tie.Need-returns
-returns c = let w = c .before .before in let f = w .before .before .before .before .before in let s = f .before .before .before .before .before .before in
-    (laid (2 * n s) (intervalTable (n s) (es s)) (w .write-spans .last .1 .1 .0) (places s)
-    (w .write-spans .ensures (n s) (es s)
-    (record {
-      few = promise s .few;
-      sets = λ x h. ap (λ (t : List ℕ). setAt (t ++ drop (4 * n s) (words s)) x) (f .fill .ensures) ∙ table-set (n s) (es s) (drop (4 * n s) (words s)) x h;
-      numbered = s .pre .numbered;
-      each = numbers-long s;
-    }))
-    (s .pre .enough) (w .write-spans .kept .1 .1 .0),
-    behind 1024 (4 * n s) (f .fill .last .1 .1 .1 .0) (words s) (omega (arith, promise s .few)) (words-room s) (f .fill .kept .1 .1 .1 .0))
+returns c = let w = c .before .before in let f = w .before .before .before .before .before in let s = f .before .before .before .before .before .before in (
+  laid (2 * n s) (intervalTable (n s) (es s)) (w .write-spans .last .1 .1 .0) (places s)
+      (w .write-spans .ensures (n s) (es s)
+      (record {
+        few = promise s .few;
+        sets = λ x h. ap (λ (t : List ℕ). setAt (t ++ drop (4 * n s) (words s)) x) (f .fill .ensures) ∙ table-set (n s) (es s) (drop (4 * n s) (words s)) x h;
+        numbered = s .pre .numbered;
+        each = numbers-long s;
+      }))
+      (s .pre .enough) (w .write-spans .kept .1 .1 .0),
+  behind 1024 (4 * n s) (f .fill .last .1 .1 .1 .0) (words s) (omega (arith, promise s .few)) (words-room s) (f .fill .kept .1 .1 .1 .0),
+)
 
 pub write-intervals-spec : {M : Type 1} → statement M
 write-intervals-spec =

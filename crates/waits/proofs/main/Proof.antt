@@ -1,0 +1,41 @@
+-- `main` meets its contract: what was put is within the text. Assumes nothing.
+use mathlib.Core.Path.{_≡_, sym}
+use mathlib.Core.List.{List}
+use Prim.Native.Nat.{ℕ, _≤_}
+use native.Mathlib.Omega.{arith}
+use lib.ListN.{length, replicate}
+use lib.Seq.{length-take-le}
+use Rattle.texts.specs.Lines.{reportLine}
+use Rattle.texts.proofs.Puts.{puts-within}
+use borrow.Author.Needs.{needs}
+use Rattle.waits.proofs.main.Statement.{statement}
+use Rattle.waits.proofs.main.Tie as tie
+
+-- the line is within its room
+module _ (c : tie.After-put-report) where
+  within : c .put-report .result ≤ length (c .put-report .last .1 .1 .0)
+  within = let r = c .before .before .report .result in puts-within 0 (reportLine (r .all) (r .needless)) (replicate 64 0) (omega arith) (c .put-report .ensures)
+
+array-share-prefix-text : tie.Need-array-share-prefix-text
+array-share-prefix-text c = within (c .before)
+
+slice-aggregate-write-all : tie.Need-slice-aggregate-write-all
+slice-aggregate-write-all c = let p = c .before .before in sym (length-take-le _ (p .put-report .last .1 .1 .0) (within p))
+
+pub main-spec : {M : Type 1} → statement M
+main-spec =
+    tie.close
+    (tie.spec
+    (λ c κs. search needs)
+    (λ c. search needs)
+    (λ c κs. search needs)
+    (λ c. search needs)
+    (λ c. search needs)
+    (λ c κs. search needs)
+    (λ c. search needs)
+    (λ c κs. search needs)
+    array-share-prefix-text
+    slice-aggregate-write-all
+    (λ c κs. search needs)
+    (λ c κs. search needs)
+    (λ c. search needs))
