@@ -272,15 +272,21 @@ def perform(desk, r):
 
 # ---- the listing
 
+def opened(data):
+    """A fresh desk over the hierarchy of a file, and the file's steps."""
+    records = read_file(data)
+    n = little(records[0][1:3])
+    desk = Desk(Hierarchy(n, [(r[1], r[2]) for r in records if r[0] == EDGE]))
+    return desk, [r for r in records if r[0] > EDGE]
+
+
 def listing(data):
     try:
-        records = read_file(data)
-        n = little(records[0][1:3])
-        desk = Desk(Hierarchy(n, [(r[1], r[2]) for r in records if r[0] == EDGE]))
+        desk, steps = opened(data)
     except Refusal as e:
         return [f"refused {e.number}"]
     lines = []
-    for k, r in enumerate((r for r in records if r[0] > EDGE), 1):
+    for k, r in enumerate(steps, 1):
         try:
             lines.append(f"{k} {perform(desk, r)}")
         except Refusal as e:
