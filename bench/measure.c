@@ -1,4 +1,6 @@
-/* Times the project and the two C twins side by side; bench/run calls it:  measure LISTING JUDGING PLAIN (FILE WHAT) ..
+/* Times the project and the two C twins side by side; bench/run calls it:
+       measure                                              the check
+       measure TITLE PROGRAM JUDGING PLAIN (FILE WHAT) ..   a program and its twins: the listing, or the report
    The first file has no byte: what a program takes for it is what starting it takes.
    All times are processor time, so that others who use the machine count less. */
 #define _DEFAULT_SOURCE
@@ -69,7 +71,7 @@ static void checks(void)
     free(bytes);
 }
 
-/* ---- the listing */
+/* ---- the programs */
 
 static double seconds(struct timeval t)
 {
@@ -108,11 +110,11 @@ static void ratio(const double *best, const double *start, int twin)
         printf("       ");
 }
 
-static void listings(char **programs, int count, char **files)
+static void processes(const char *title, char **programs, int count, char **files)
 {
     double start[PROGRAMS] = {0};
 
-    printf("\nthe listing, milliseconds for a whole process, best of %d, and the project's time over that of each twin;\n", PROCESS_ROUNDS);
+    printf("\n%s, milliseconds for a whole process, best of %d, and the project's time over that of each twin;\n", title, PROCESS_ROUNDS);
     printf("the second ratio is without what each program takes for no byte at all, which is its start\n");
     printf("%36s %8s %8s %8s  %s  %s\n", "file", "project", "judging", "plain", "  over judging", "    over plain");
     for (int k = 0; k < count; k++) {
@@ -133,9 +135,11 @@ static void listings(char **programs, int count, char **files)
 
 int main(int count, char **words)
 {
-    if (count < 6 || count % 2)
+    if (count == 1)
+        checks();
+    else if (count >= 7 && count % 2)
+        processes(words[1], words + 2, (count - 5) / 2, words + 5);
+    else
         return 2;
-    checks();
-    listings(words + 1, (count - 4) / 2, words + 4);
     return 0;
 }

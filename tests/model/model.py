@@ -1,8 +1,13 @@
-"""A plain model of the record desk, written from the papers (document 01, and point 1 of 02), to compare the listing program with.
+#!/usr/bin/env python3
+"""A plain model of the record desk, written from the papers (document 01, and points 1 and 2 of 02), to compare the programs with.
 
 It shares no code with the project: sets for reach, Python integers for values, a list of parties for the arrival order.
-`listing(data)` gives the lines that the listing program must print for the bytes of one file.
+`listing(data)` gives the lines that the program `listing` must print for the bytes of one file, `waits(data)` the one line of the program `waits`.
+
+    model.py FILE            prints the listing
+    model.py --waits FILE    prints the report: all waits and needless ones
 """
+import sys
 
 
 class Refusal(Exception):
@@ -270,20 +275,81 @@ def perform(desk, r):
     return desk.leave(r[1])
 
 
-# ---- the listing
+# ---- the listing and the report
+
+def opened(data):
+    """A fresh desk over the hierarchy of a file, and the file's steps."""
+    records = read_file(data)
+    n = little(records[0][1:3])
+    desk = Desk(Hierarchy(n, [(r[1], r[2]) for r in records if r[0] == EDGE]))
+    return desk, [r for r in records if r[0] > EDGE]
+
 
 def listing(data):
     try:
-        records = read_file(data)
-        n = little(records[0][1:3])
-        desk = Desk(Hierarchy(n, [(r[1], r[2]) for r in records if r[0] == EDGE]))
+        desk, steps = opened(data)
     except Refusal as e:
         return [f"refused {e.number}"]
     lines = []
-    for k, r in enumerate((r for r in records if r[0] > EDGE), 1):
+    for k, r in enumerate(steps, 1):
         try:
             lines.append(f"{k} {perform(desk, r)}")
         except Refusal as e:
             lines.append(f"{k} refused {e.number}")
     lines.append(f"end {len(desk.holds)} {len(desk.calls)} {desk.grants}")
     return lines
+
+
+class Report:
+    """02, point 2: beside the desk the mode and names of each party's visit, and the two counts."""
+
+    def __init__(self, desk):
+        self.desk = desk
+        self.reach = [desk.h.reach(x) for x in range(desk.h.n)]
+        self.visits = {}
+        self.waits = self.needless = 0
+
+    def reached(self, names):
+        """All that the named records reach."""
+        return set().union(*(self.reach[x] for x in names))
+
+    def meet(self, a, b):
+        """Whether the reaches of two visits meet, other than a reader against a reader."""
+        (mode_a, names_a), (mode_b, names_b) = a, b
+        if mode_a == mode_b == READING:
+            return False
+        return not self.reached(names_a).isdisjoint(self.reached(names_b))
+
+    def step(self, r):
+        """Takes a step. An enter that waits is judged by those who were there before it; a refused step comes to no count."""
+        there = [self.visits[p] for p in [*self.desk.holds, *self.desk.calls]]
+        answer = perform(self.desk, r)
+        if r[0] != ENTER:
+            return
+        visit = self.visits[r[1]] = (r[2], r[4:4 + r[3]])
+        if answer == "waits":
+            self.waits += 1
+            if not any(self.meet(visit, v) for v in there):
+                self.needless += 1
+
+
+def waits(data):
+    try:
+        desk, steps = opened(data)
+    except Refusal:
+        return ["0 0"]
+    report = Report(desk)
+    for r in steps:
+        try:
+            report.step(r)
+        except Refusal:
+            pass
+    return [f"{report.waits} {report.needless}"]
+
+
+if __name__ == "__main__":
+    words = sys.argv[1:]
+    if len(words) != 1 + (words[:1] == ["--waits"]):
+        sys.exit(__doc__)
+    with open(words[-1], "rb") as file:
+        print("\n".join((waits if len(words) == 2 else listing)(file.read())))

@@ -1,17 +1,17 @@
 #!/usr/bin/env python3
-"""Tries the conformance files on wrong listing programs: the model with one line changed, for each change in changes.txt.
+"""Tries the conformance files on wrong listing and report programs: the model with one line changed, for each change in changes.txt.
 
     run.py              prints what is amiss, then how many changes there are and what became of them
     run.py --verbose    a line for each change too: what became of it, and by which file
 
-A change is killed where the changed model gives another listing than the file's own. It must be killed, unless changes.txt says that it is
-equivalent, and then it must not be. Exit status 0: that is so for all of them.
+A change is killed where the changed model gives another listing than the file's own, NAME.listing, or behind the line 'program: waits' another report,
+NAME.waits. It must be killed, unless changes.txt says that it is equivalent, and then it must not be. Exit status 0: that is so for all of them.
 
 changes.txt has a section '[NAME]' for a function, a method (CLASS.NAME) or an assignment of the model, and in it a line for each change:
 
     OLD  =>  NEW              OLD stands once in the section, within a line
     2/3 OLD  =>  NEW          OLD stands three times in it, and the second is meant
-        equivalent: WHY       behind a change that alters no listing
+        equivalent: WHY       behind a change that alters no listing, or no report
 
 Lines that start with '#' are comments.
 """
@@ -24,6 +24,7 @@ import sys
 HERE = os.path.dirname(os.path.abspath(__file__))
 MODEL = os.path.join(HERE, "..", "model", "model.py")
 FILES = os.path.join(HERE, "..", "..", "conformance")
+PROGRAMS = ("listing", "waits")  # functions of the model, and ends of the files' names
 LIMIT = 1.5  # seconds of processor time for a file; the model needs less than a tenth of one for the longest
 
 
@@ -52,8 +53,8 @@ def sections(source):
 
 
 def read_changes(path):
-    """A list of [line number, section, which, of how many, old, new, why equivalent or None]."""
-    changes, section = [], None
+    """A list of [line number, section, which, of how many, old, new, why equivalent or None, program]."""
+    changes, section, program = [], None, PROGRAMS[0]
     with open(path, encoding="utf-8") as f:
         for at, line in enumerate(f, 1):
             text = line.strip()
@@ -61,19 +62,21 @@ def read_changes(path):
                 continue
             if re.fullmatch(r"\[[\w.]+\]", text):
                 section = text[1:-1]
+            elif text.startswith("program: ") and text[9:] in PROGRAMS:
+                section, program = None, text[9:]
             elif text.startswith("equivalent: ") and changes and changes[-1][6] is None:
                 changes[-1][6] = text[12:]
             else:
                 form = re.fullmatch(r"(?:(\d)/(\d) )?(.+?)  =>  (.+)", text)
                 if not form or section is None:
                     raise Wrong(f"line {at}: neither a section, a change nor a reason")
-                changes.append([at, section, int(form[1] or 1), int(form[2] or 1), form[3], form[4], None])
+                changes.append([at, section, int(form[1] or 1), int(form[2] or 1), form[3], form[4], None, program])
     return changes
 
 
 def changed(source, places, change):
     """The model with the change."""
-    _, section, which, count, old, new, _ = change
+    section, which, count, old, new = change[1:6]
     if section not in places:
         raise Wrong(f"no such section: {section}")
     lines = source.split("\n")
@@ -85,21 +88,21 @@ def changed(source, places, change):
     return "\n".join(lines)
 
 
-def load(source, name):
+def load(source, name, program):
     space = {"__name__": name}
     exec(compile(source, name, "exec"), space)
-    return space["listing"]
+    return space[program]
 
 
 def over(*_):
     raise TooLong
 
 
-def run(listing, data):
+def run(program, data):
     """The lines; 'crash' or 'endless' where there are none."""
     signal.setitimer(signal.ITIMER_VIRTUAL, LIMIT)
     try:
-        return listing(data)
+        return program(data)
     except TooLong:
         return "endless"
     except Exception:
@@ -108,16 +111,16 @@ def run(listing, data):
         signal.setitimer(signal.ITIMER_VIRTUAL, 0)
 
 
-def fate(source, files):
+def fate(source, program, files):
     """How the changed model was found out, 'differs', 'crash' or 'endless', and by which file; 'survives' where it was not.
     A crash counts only where no file has it print something else. A short file that finds one out is tried first on the next."""
     try:
-        listing = load(source, "changed")
+        changed_one = load(source, "changed", program)
     except Exception as e:
         raise Wrong(f"is no program: {e}") from None
     crash = None
     for at, (name, data, want) in enumerate(files):
-        got = run(listing, data)
+        got = run(changed_one, data)
         if got == "crash":
             crash = crash or ("crash", name)
         elif got != want:
@@ -127,16 +130,16 @@ def fate(source, files):
     return crash or ("survives", None)
 
 
-def read_files():
-    """Each file with its listing; the short ones first, since most changes are found out by one of them."""
+def read_files(program):
+    """Each file with what the program must print. Those come first that find out most changes: short ones, and of them those whose report has a wait."""
     files = []
     for entry in os.listdir(FILES):
         if entry.endswith(".blocks"):
             with open(os.path.join(FILES, entry), "rb") as f:
                 data = f.read()
-            with open(os.path.join(FILES, entry[:-7] + ".listing"), encoding="utf-8") as f:
+            with open(os.path.join(FILES, f"{entry[:-7]}.{program}"), encoding="utf-8") as f:
                 files.append((entry[:-7], data, f.read().split("\n")[:-1]))
-    return sorted(files, key=lambda case: (len(case[1]), case[0]))
+    return sorted(files, key=lambda case: (len(case[1]) > 2048, case[2] == ["0 0"], len(case[1]), case[0]))
 
 
 def main(words):
@@ -146,23 +149,25 @@ def main(words):
     signal.signal(signal.SIGVTALRM, over)
     with open(MODEL, encoding="utf-8") as f:
         source = f.read()
-    files, places, seen = read_files(), sections(source), set()
-    right, tree = fate(source, files), ast.dump(ast.parse(source))
-    if right[0] != "survives":
-        print(f"mutants: the model itself has another listing than {right[1]}")
-        return 1
+    files, places, seen = {program: read_files(program) for program in PROGRAMS}, sections(source), set()
+    tree = ast.dump(ast.parse(source))
+    for program in PROGRAMS:
+        right = fate(source, program, files[program])
+        if right[0] != "survives":
+            print(f"mutants: the model itself has another {program} than {right[1]}")
+            return 1
     count = dict.fromkeys(("differs", "crash", "endless", "equivalent", "wrong"), 0)
     changes = read_changes(os.path.join(HERE, "changes.txt"))
     for change in changes:
-        at, section, _, _, old, new, why = change
+        at, section, _, _, old, new, why, program = change
         try:
             text = changed(source, places, change)
-            how, name = fate(text, files)
-            if ast.dump(ast.parse(text)) == tree:
+            how, name = fate(text, program, files[program])
+            if how == "survives" and ast.dump(ast.parse(text)) == tree:
                 raise Wrong("changes nothing")
-            if text in seen:
+            if (program, text) in seen:
                 raise Wrong("stands twice")
-            seen.add(text)
+            seen.add((program, text))
             if why is None and how == "survives":
                 raise Wrong("survives")
             if why is not None and how != "survives":
@@ -174,7 +179,8 @@ def main(words):
             print(f"mutants: changes.txt, line {at}: {e}: [{section}] {old}  =>  {new}")
             count["wrong"] += 1
     killed = count["differs"] + count["crash"] + count["endless"]
-    print(f"mutants: {len(changes)} changes, {len(files)} files: {killed} killed ({count['crash']} of them only by a crash, "
+    reports = sum(change[7] == "waits" for change in changes)
+    print(f"mutants: {len(changes)} changes, {reports} of them of the report, {len(files[PROGRAMS[0]])} files: {killed} killed ({count['crash']} of them only by a crash, "
           f"{count['endless']} did not end), {count['equivalent']} equivalent, {count['wrong']} amiss")
     return 1 if count["wrong"] or not changes else 0
 
