@@ -1,4 +1,4 @@
-// The documents' cases of building, covers and reach that must be seen from running code. Standard input has a line for each; each is written out again with
+// The documents' cases of building, also in the plain way, covers and reach that must be seen from running code. Standard input has a line for each; each is written out again with
 // what the code answers. A line's first letter says what it does, and its numbers are all that is taken from the rest.
 ghost use Prim.Native.Nat.{_≤_};
 use intervals::BuildAnswer;
@@ -152,6 +152,43 @@ fn build_line(line: &[u8]) {
     build(line, ends, &mut places, &mut scratch);
 }
 
+// Says what stands at a place of the words.
+fn say_word(words: &[u64], i: usize) {
+    if i < words.len() {
+        say(b", ", words[i] as usize);
+    }
+}
+
+// Builds in the plain way with so many nodes, places, edges and words; says what that leaves in places, in the first word and the last that may be used,
+// and in the one behind it.
+fn build_plain(line: &[u8], edges: &[u16], places: &mut [u16], words: &mut [u64]) {
+    let n = number(line, 0);
+    let edge_count = number(line, 3);
+    let held = size(line, 1, places.len());
+    let room = size(line, 4, words.len());
+    say_built(reach_sets::build(
+        n,
+        edges,
+        edge_count,
+        &mut places[0..held],
+        &mut words[0..room],
+    ));
+    say_intervals(line, places);
+    say_word(words, 0);
+    say_word(words, 1023);
+    say_word(words, 1024);
+}
+
+// The same over the line's edges, with places of 7 and words of 9.
+fn plain_line(line: &[u8]) {
+    let mut edges = [0u16; 2050];
+    fill(line, 8, number(line, 7), &mut edges);
+    let ends = front(&edges, number(line, 2));
+    let mut places = [7u16; 516];
+    let mut words = [9u64; 1026];
+    build_plain(line, ends, &mut places, &mut words);
+}
+
 // Says the cover by n, so many places of the line's table, and so many of its two names.
 fn cover_line(line: &[u8]) {
     let mut names = [0u16; 2];
@@ -179,6 +216,7 @@ fn answer(line: &[u8]) {
         b'b' => build_line(line),
         b'c' => cover_line(line),
         b'i' => reach_line(line),
+        b'p' => plain_line(line),
         _ => {}
     }
 }

@@ -7,7 +7,7 @@ use lib.ListN.{length}
 use Rattle.lists.specs.Lists.{anyBelow, every}
 use Rattle.hierarchy.specs.Hierarchy.{edgesOf, Legal}
 use Rattle.locks.specs.declared.Mode.{Mode}
-use Rattle.locks.specs.declared.Lock.{Lock}
+use Rattle.locks.specs.declared.Mode.the-variants.{Writing}
 use Rattle.locks.specs.declared.Stage.{Stage}
 use Rattle.locks.specs.declared.Stage.the-variants.{Out, Waiting, Holding}
 use Rattle.locks.specs.Locks.{bothReading}
@@ -23,15 +23,21 @@ use Rattle.needless.specs.declared.Waits.{Waits}
 use Rattle.needless.specs.declared.Progress.{Progress}
 use Rattle.needless.specs.Waits.{noWaits, oneWait, plus, namesOf, waitsOfSteps}
 
--- a holder or waiter stands in a newcomer's way, by the sets of their calls
-abbrev pub lockInWay : Lock → NodeSet → Mode → NodeSet → Bool
-lockInWay l theirs mode s = not (bothReading (l .mode) mode) && meets theirs s
+-- the party holds or waits
+abbrev pub here : Stage → Bool
+here Out = false
+here (Waiting l) = true
+here (Holding l) = true
 
--- a party at this stage does
+-- its mode; of one that is out, which is asked for none, writing
+abbrev pub modeOf : Stage → Mode
+modeOf Out = Writing
+modeOf (Waiting l) = l .mode
+modeOf (Holding l) = l .mode
+
+-- it stands in a newcomer's way, by the sets of their calls
 abbrev pub setInWay : Stage → NodeSet → Mode → NodeSet → Bool
-setInWay Out theirs mode s = false
-setInWay (Waiting l) theirs mode s = lockInWay l theirs mode s
-setInWay (Holding l) theirs mode s = lockInWay l theirs mode s
+setInWay stage theirs mode s = here stage && not (bothReading (modeOf stage) mode) && meets theirs s
 
 -- one of the 32 parties does
 abbrev pub someInWay : List Entry → List ℕ → Mode → NodeSet → Bool

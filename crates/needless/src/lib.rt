@@ -13,11 +13,10 @@ ghost use Rattle.parties.specs.Parties.{stageIn};
 ghost use Rattle.reach_sets.specs.Sets.{setAt, callSet};
 ghost use Rattle.replay.specs.Replay.{recordList, isRecord, stepRecords, startOf};
 ghost use Rattle.needless.specs.Waits.{noWaits, nothingNamed, plus, waitsOfSteps, waitsOf};
-ghost use Rattle.needless.specs.Inner.{lockInWay, setInWay, someInWay, visits, waited, waitsIf, calledAfter, Counts, Sets, Countable};
+ghost use Rattle.needless.specs.Inner.{here, modeOf, setInWay, someInWay, visits, waited, waitsIf, calledAfter, Counts, Sets, Countable};
 use arrivals::PARTIES;
 use blocks::RECORD;
 use desk::Desk;
-use locks::Lock;
 use locks::Mode;
 use locks::Stage;
 use opening::OpenAnswer;
@@ -37,23 +36,34 @@ struct Progress {
     waits: Waits,
 }
 
-// A WAIT. Whether a holder or waiter stands in a newcomer's way, by its lock and the sets of both calls: other than a reader against a reader.
-fn meets(lock: Lock, theirs: NodeSet, mode: Mode, set: NodeSet) -> bool
-    ensures { λ r. ⌜ r ≡ lockInWay lock theirs mode set ⌝ }
-{
-    let m = lock.mode;
-    !locks::both_reading(m, mode) & reach_sets::meets(theirs, set)
-}
-
-// Whether a party at this stage does.
-fn in_way(stage: Stage, theirs: NodeSet, mode: Mode, set: NodeSet) -> bool
-    ensures { λ r. ⌜ r ≡ setInWay stage theirs mode set ⌝ }
+// A WAIT. Whether a party at this stage holds or waits.
+fn is_here(stage: Stage) -> bool
+    ensures { λ r. ⌜ r ≡ here stage ⌝ }
 {
     match stage {
         Stage::Out => false,
-        Stage::Waiting(l) => meets(l, theirs, mode, set),
-        Stage::Holding(l) => meets(l, theirs, mode, set),
+        Stage::Waiting(_l) => true,
+        Stage::Holding(_l) => true,
     }
+}
+
+// Its mode; of one that is out, which is asked for none, writing.
+fn mode_of(stage: Stage) -> Mode
+    ensures { λ r. ⌜ r ≡ modeOf stage ⌝ }
+{
+    match stage {
+        Stage::Out => Mode::Writing,
+        Stage::Waiting(l) => l.mode,
+        Stage::Holding(l) => l.mode,
+    }
+}
+
+// Whether a party at this stage stands in a newcomer's way, by the sets of both calls: a holder or waiter, other than a reader against a reader.
+fn in_way(stage: Stage, theirs: NodeSet, mode: Mode, set: NodeSet) -> bool
+    ensures { λ r. ⌜ r ≡ setInWay stage theirs mode set ⌝ }
+{
+    let m = mode_of(stage);
+    is_here(stage) & !locks::both_reading(m, mode) & reach_sets::meets(theirs, set)
 }
 
 // Whether one of the 32 parties does, by the sets of their calls.
@@ -95,7 +105,7 @@ fn visited(outcome: Outcome) -> bool
         Outcome::Value(_v) => false,
         Outcome::Stored => false,
         Outcome::Left(_count) => false,
-        Outcome::Refused(_k) => false,
+        Outcome::Refused(_number) => false,
     }
 }
 

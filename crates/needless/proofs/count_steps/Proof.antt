@@ -64,13 +64,17 @@ part-count-step-end c = omega (arith, c .loop-test .taken)
 
 count-step-requires : tie.Need-count-step-requires Inv-loop μ-loop
 count-step-requires c κs = let l = c .before .before .before in let a = s l .args in let q = l .before .loop in
-    let few = counting-few (lent (a .n) (a .intervals .now) (a .edges .now) (a .edge-count)) (a .sets .now) (rs l) (a .values .now) (q .i) (q .progress) (q .values) (q .called) (q .inv) in
-    (ap isRecord (sym (read l)) ∙ record-at isRecord (rs l) (i l) (s l .pre .0) (there l),
-    (omega (arith, few .0, records-length (a .records .now), s l .good), omega (arith, few .1, records-length (a .records .now), s l .good)))
+    let few = counting-few (lent (a .n) (a .intervals .now) (a .edges .now) (a .edge-count)) (a .sets .now) (rs l) (a .values .now) (q .i) (q .progress) (q .values) (q .called) (q .inv) in (
+      ap isRecord (sym (read l)) ∙ record-at isRecord (rs l) (i l) (s l .pre .0) (there l),
+      (omega (arith, few .0, records-length (a .records .now), s l .good), omega (arith, few .1, records-length (a .records .now), s l .good)),
+    )
 
 add-i : tie.Need-add-i Inv-loop μ-loop
-add-i c = omega (arith, c .before .before .before .before .before .before .before .before .loop-test .taken,
-    c .before .before .before .before .before .before .before .before .before .before .before .before .before .before .before .before .before .good)
+add-i c = omega (
+  arith,
+  c .before .before .before .before .before .before .before .before .loop-test .taken,
+  c .before .before .before .before .before .before .before .before .before .before .before .before .before .before .before .before .before .good,
+)
 
 loop-less : tie.Need-loop-less Inv-loop μ-loop
 loop-less c = omega (arith, c .before .before .before .before .before .before .before .before .loop-test .taken)

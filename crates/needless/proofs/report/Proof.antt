@@ -24,9 +24,10 @@ module _ (c : tie.After-known-told2) where
 count-opened-requires : tie.Need-count-opened-requires
 count-opened-requires c κs = let k = c .before .before .before in let r = ready k in let o = k .before .before .before .before .before .before .open-run in
     let e = k .before .before .before in
-    let edges : 2 * k .before .answer2 .given .0 .1 .0 ≤ length (o .last .1 .1 .0) = omega (arith, r .edges-most, e .before .edges2 .given) in
-    ((omega (arith, r .n-most, e .places2 .given), edges, omega (arith, r .records-most, e .before .before .records2 .given)),
-    record { legal = r .legal; whole = omega (arith, length-take-le (2 * k .before .answer2 .given .0 .1 .0) (o .last .1 .1 .0) edges); right = r .right })
+    let edges : 2 * k .before .answer2 .given .0 .1 .0 ≤ length (o .last .1 .1 .0) = omega (arith, r .edges-most, e .before .edges2 .given) in (
+      (omega (arith, r .n-most, e .places2 .given), edges, omega (arith, r .records-most, e .before .before .records2 .given)),
+      record { legal = r .legal; whole = omega (arith, length-take-le (2 * k .before .answer2 .given .0 .1 .0) (o .last .1 .1 .0) edges); right = r .right },
+    )
 
 returns : tie.Need-returns
 returns c = let o = c .before .before .before .before .before .before .before .open-run in let a = c .before .before .answer .given in
