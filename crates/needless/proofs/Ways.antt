@@ -21,7 +21,7 @@ use Rattle.locks.specs.Locks.{bothReading}
 use Rattle.parties.specs.declared.Entry.{Entry}
 use Rattle.parties.specs.Parties.{stageIn}
 use Rattle.reach_sets.specs.declared.NodeSet.{NodeSet}
-use Rattle.reach_sets.specs.Sets.{has, none, meets, setAt, setTo, joinedWith, callSet, setTable}
+use Rattle.reach_sets.specs.Sets.{has, meets, setAt, setTo, joinedWith, callSet, setTable}
 use Rattle.reach_sets.proofs.Stores.{put-same, put-other, put-long}
 use Rattle.reach_sets.proofs.Calls.{call-has, call-long}
 use Rattle.needless.specs.Waits.{nothingNamed, namesOf, reachesMeet, inWay}

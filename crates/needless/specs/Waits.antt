@@ -10,6 +10,7 @@ use Rattle.hierarchy.specs.Hierarchy.{edgesOf, inReach, hierarchyChecks}
 use Rattle.blocks.specs.Record.{partyIn, modeIn, namesIn}
 use Rattle.blocks.specs.File.{fileChecks, fileRecords}
 use Rattle.locks.specs.declared.Mode.{Mode}
+use Rattle.locks.specs.declared.Lock.{Lock}
 use Rattle.locks.specs.declared.Stage.{Stage}
 use Rattle.locks.specs.declared.Stage.the-variants.{Out, Waiting, Holding}
 use Rattle.locks.specs.Locks.{bothReading, modeNumbered}
@@ -50,16 +51,20 @@ namedAfter r stored named = named
 namedAfter r (left parties) named = named
 namedAfter r (refused number) named = named
 
--- NEEDLESS. The reach of the named nodes meets that of others: some node is in both
+-- NEEDLESS. The reach of the named nodes meets that of others: some node is in both (`meet-reach` in needless_laws: a way leads to it from one of the names
+-- and from one of the others)
 abbrev pub reachesMeet : ℕ → List ℕ → List ℕ → List ℕ → Bool
 reachesMeet n es names others = anyBelow n (λ node. inReach n es names node && inReach n es others node)
 
--- a party at this stage stands in the newcomer's way: it is a holder or a waiter, not a reader against a reader, and has named nodes whose reach meets the
--- newcomer's
+-- one that holds or waits for this lock stands in the newcomer's way: it is no reader against a reader, and has named nodes whose reach meets the newcomer's
+abbrev pub lockInWay : ℕ → List ℕ → Mode → List ℕ → Lock → List ℕ → Bool
+lockInWay n es mode names l theirs = not (bothReading (l .mode) mode) && reachesMeet n es theirs names
+
+-- a party at this stage does: a holder or a waiter
 abbrev pub inWay : ℕ → List ℕ → Mode → List ℕ → Stage → List ℕ → Bool
 inWay n es mode names Out theirs = false
-inWay n es mode names (Waiting l) theirs = not (bothReading (l .mode) mode) && reachesMeet n es theirs names
-inWay n es mode names (Holding l) theirs = not (bothReading (l .mode) mode) && reachesMeet n es theirs names
+inWay n es mode names (Waiting l) theirs = lockInWay n es mode names l theirs
+inWay n es mode names (Holding l) theirs = lockInWay n es mode names l theirs
 
 -- a wait is needless if no holder or earlier waiter does. Of the desk before its enter: whoever waits there is earlier, and the newcomer is out
 abbrev pub isNeedless : Hierarchy → Desk → List (List ℕ) → Mode → List ℕ → Bool

@@ -235,10 +235,7 @@ fn count_steps(
     let total = records.len() / RECORD;
     let mut progress = Progress {
         desk: Desk::fresh(),
-        waits: Waits {
-            all: 0,
-            needless: 0,
-        },
+        waits: no_waits(),
     };
     let mut i = 0;
     while i < total {

@@ -1,4 +1,5 @@
--- LAWS of the two numbers: the first counts the answers `waits` of the file's run, the second is at most the first, and a refused file has no wait. Assumes nothing.
+-- LAWS of the two numbers: the first counts the answers `waits` of the file's run, and the second is at most the first (a refused file has no wait:
+-- `refused-waits`, needless/proofs/Files). Assumes nothing.
 use mathlib.Core.Path.{_≡_, refl}
 use mathlib.Core.List.{List, [], _∷_}
 use mathlib.Core.Bool.{Bool, true, false}

@@ -1,14 +1,21 @@
 -- The reaches of named nodes meet just where those of two of them do. Assumes nothing.
-use mathlib.Core.Path.{_≡_, refl, _∙_}
+use mathlib.Core.Path.{_≡_, refl, ap, _∙_}
 use mathlib.Core.List.{List, [], _∷_}
-use mathlib.Core.Bool.{Bool, true, false, _&&_}
-use Prim.Native.Nat.{ℕ}
+use mathlib.Core.Bool.{Bool, true, false, not, _&&_}
+use Prim.Native.Nat.{ℕ, _<_}
+use native.Mathlib.Omega.{arith}
+use lib.Dec.{eqb}
+use lib.ListN.{getD}
+use borrow.Author.Tests.{eqb-false, ne-eqb, not-true}
 use Rattle.lists.specs.Lists.{any}
 use Rattle.lists.proofs.Bools.{not-both, both-ways, and-left, and-right, and-both, or-either}
 use Rattle.lists.proofs.Bounded.{any-stop}
 use Rattle.lists.proofs.Members.{In, head, tail}
 use Rattle.lists.proofs.Distinct.{any-some, any-in}
-use Rattle.hierarchy.specs.Hierarchy.{flagged, reach, inReach}
+use Rattle.hierarchy.specs.Hierarchy.{edgesOf, Reach, flagged, reach, inReach, Legal}
+use Rattle.hierarchy.proofs.Reaches.{reach-within}
+use Rattle.hierarchy.proofs.Legals.{promised}
+use Rattle.interval_laws.proofs.Laws.{reach-agrees}
 use Rattle.needless.specs.Waits.{reachesMeet}
 use Rattle.needless_laws.specs.Visits.{nodesMeet}
 
@@ -56,3 +63,36 @@ module _ (n : ℕ) (es : List ℕ) where
       meet-pairs names others
       ∙ any-one (λ a. any (λ b. nodesMeet n es a b) others) names x i same
       ∙ any-one (λ b. nodesMeet n es x b) others y j same′
+
+-- BY WAYS. In a legal hierarchy
+module _ (n : ℕ) (table : List ℕ) (edgeCount : ℕ) (legal : Legal n table edgeCount) where
+  abbrev ways : List ℕ
+  ways = edgesOf table edgeCount
+
+  -- a node has a flag where it is reached
+  pub flag-reached : (a z : ℕ) → a < n → Reach ways a z → flagged (reach n ways a) z ≡ true
+  flag-reached a z h w = ap not (ne-eqb (getD (reach n ways a) z 0) 0 (λ e. omega (arith, reach-agrees n table edgeCount legal a z h .0 w)))
+
+  pub reached-flag : (a z : ℕ) → a < n → flagged (reach n ways a) z ≡ true → Reach ways a z
+  reached-flag a z h e =
+      let some = eqb-false (getD (reach n ways a) z 0) 0 (not-true (eqb (getD (reach n ways a) z 0) 0) e) in
+      reach-agrees n table edgeCount legal a z h .1 (omega (arith, some))
+
+  -- THE REACH OF NAMED NODES MEETS THAT OF OTHERS just where a way leads from one of the names and a way from one of the others to one node
+  pub meet-reach : (names others : List ℕ) → ((r : ℕ) → In r names → r < n) → ((r : ℕ) → In r others → r < n)
+      → (reachesMeet n ways names others ≡ true → (a b z : ℕ) × In a names × In b others × Reach ways a z × Reach ways b z)
+      × ((a b z : ℕ) × In a names × In b others × Reach ways a z × Reach ways b z → reachesMeet n ways names others ≡ true)
+  meet-reach names others below below′ = (
+    λ t.
+        let (z, h, e) = any-some (λ node. inReach n ways names node && inReach n ways others node) n t in
+        let (a, i, p) = any-member (λ name. flagged (reach n ways name) z) names (and-left (inReach n ways names z) (inReach n ways others z) e) in
+        let (b, j, q) = any-member (λ name. flagged (reach n ways name) z) others (and-right (inReach n ways names z) (inReach n ways others z) e) in
+        (a, b, z, i, j, reached-flag a z (below a i) p, reached-flag b z (below′ b j) q),
+    λ m.
+        let (a, b, z, i, j, v, w) = m in
+        any-stop (λ node. inReach n ways names node && inReach n ways others node) n z
+        (reach-within n (λ p c e. promised n table edgeCount legal .edge p c e .child-below) v (below a i))
+        (and-both (inReach n ways names z) (inReach n ways others z)
+        (any-in (λ name. flagged (reach n ways name) z) i (flag-reached a z (below a i) v))
+        (any-in (λ name. flagged (reach n ways name) z) j (flag-reached b z (below′ b j) w))),
+  )

@@ -203,7 +203,12 @@ steps-needless (r ∷ rs) s named built known o =
     let rest = steps-needless rs (p .state) (namedAfter r (p .answer) named) still (seen .known) (and-right (visitsOne (p .answer) (namesIn r)) (visitsNameOne (p .state) rs) o) in
     omega (arith, seen .none-needless built, rest)
 
--- A FILE'S RECORDS
+-- A FILE'S RECORDS. Where each visit names one node, each lock has the interval of its one name when all steps are done (and so after each: the records up to it)
+pub records-known : (rs : List (List ℕ)) → OneEach rs
+    → Known ((performAll (startOf (builtOf rs) (sizeOf rs)) (stepRecords rs)) .state) (namedAfterSteps (startOf (builtOf rs) (sizeOf rs)) nothingNamed (stepRecords rs))
+records-known rs o = steps-known (stepRecords rs) (startOf (builtOf rs) (sizeOf rs)) nothingNamed (start-known (builtOf rs) (replicate (sizeOf rs) 0)) o
+
+-- and over a tree no wait is needless
 pub records-needless : (rs : List (List ℕ)) → oneParentEach (sizeOf rs) (edgesOf (edgeTable rs) (edgeCountOf rs)) ≡ true → OneEach rs → (waitsOfRecords rs) .needless ≡ 0
 unfolding waitsOfRecords
 records-needless rs each o = by (refusal (hierarchyChecks (sizeOf rs) (edgeTable rs) (edgeCountOf rs))) refl

@@ -30,7 +30,7 @@ use Rattle.trees.specs.Tree.{Tree}
 use Rattle.trees.proofs.Trees.{share-exactly}
 use Rattle.needless.specs.Waits.{namesOf, reachesMeet, inWay, isNeedless}
 use Rattle.needless_laws.specs.Visits.{nodesMeet}
-use Rattle.needless_laws.proofs.Meets.{meet-one}
+use Rattle.needless_laws.proofs.Meets.{meet-one, flag-reached, reached-flag}
 use Rattle.needless_laws.proofs.Names.{NamedBy, StageNamed, AllNamed}
 
 -- a tree, with the intervals that building writes
@@ -41,15 +41,6 @@ pub record BuiltTree (H : Hierarchy) : Type 0 where
 module _ (n : ℕ) (table : List ℕ) (edgeCount : ℕ) (tree : Tree n table edgeCount) (x y : ℕ) (hx : x < n) (hy : y < n) where
   abbrev es : List ℕ
   es = edgesOf table edgeCount
-
-  -- a node has a flag where it is reached
-  flag-reached : (a z : ℕ) → a < n → Reach es a z → flagged (reach n es a) z ≡ true
-  flag-reached a z h w = ap not (ne-eqb (getD (reach n es a) z 0) 0 (λ e. omega (arith, reach-agrees n table edgeCount (tree .0) a z h .0 w)))
-
-  reached-flag : (a z : ℕ) → a < n → flagged (reach n es a) z ≡ true → Reach es a z
-  reached-flag a z h e =
-      let some = eqb-false (getD (reach n es a) z 0) 0 (not-true (eqb (getD (reach n es a) z 0) 0) e) in
-      reach-agrees n table edgeCount (tree .0) a z h .1 (omega (arith, some))
 
   -- the intervals of two nodes share a number just where their reaches meet
   nodes-share : (leb (lowOf n es x) (highOf n es y) && leb (lowOf n es y) (highOf n es x)) ≡ nodesMeet n es x y
@@ -65,11 +56,11 @@ module _ (n : ℕ) (table : List ℕ) (edgeCount : ℕ) (tree : Tree n table edg
       let (z, v, w) = share-exactly n table edgeCount tree x y hx hy .0 s in
       any-stop (λ node. flagged (reach n es x) node && flagged (reach n es y) node) n z
       (reach-within n (λ p c e. promised n table edgeCount (tree .0) .edge p c e .child-below) v hx)
-      (and-both (flagged (reach n es x) z) (flagged (reach n es y) z) (flag-reached x z hx v) (flag-reached y z hy w)))
+      (and-both (flagged (reach n es x) z) (flagged (reach n es y) z) (flag-reached n table edgeCount (tree .0) x z hx v) (flag-reached n table edgeCount (tree .0) y z hy w)))
       (λ t.
       let (z, h, e) = any-some (λ node. flagged (reach n es x) node && flagged (reach n es y) node) n t in
-      let v = reached-flag x z hx (and-left (flagged (reach n es x) z) (flagged (reach n es y) z) e) in
-      let w = reached-flag y z hy (and-right (flagged (reach n es x) z) (flagged (reach n es y) z) e) in
+      let v = reached-flag n table edgeCount (tree .0) x z hx (and-left (flagged (reach n es x) z) (flagged (reach n es y) z) e) in
+      let w = reached-flag n table edgeCount (tree .0) y z hy (and-right (flagged (reach n es x) z) (flagged (reach n es y) z) e) in
       let s = share-exactly n table edgeCount tree x y hx hy .1 (z, v, w) in
       and-both (leb (lowOf n es x) (highOf n es y)) (leb (lowOf n es y) (highOf n es x))
       (le-leb (lowOf n es x) (highOf n es y) (omega (arith, s .in-first .0, s .in-second .1)))
@@ -103,7 +94,7 @@ module _ (H : Hierarchy) (built : BuiltTree H) where
   in-way l names mine (Waiting k) theirs h = named-conflict k l theirs names h mine
   in-way l names mine (Holding k) theirs h = or-false (conflict k l) ∙ named-conflict k l theirs names h mine
 
-  -- A WAIT WOULD BE NEEDLESS just where the call is free, so that no call has one
+  -- A WAIT WOULD BE NEEDLESS just where the call is free, and so granted: no wait is needless
   pub needless-free : (d : Desk) (named : List (List ℕ)) (l : Lock) (names : List ℕ) → NamedBy H l names → AllNamed H (d .entries) named
       → isNeedless H d named (l .mode) names ≡ free d l
   needless-free d named l names mine locks =

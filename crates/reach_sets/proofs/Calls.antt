@@ -16,19 +16,19 @@ use Rattle.hierarchy.specs.Hierarchy.{flagged, spreads, reach, inReach}
 use Rattle.hierarchy.specs.Inner.{On}
 use Rattle.hierarchy.proofs.Reaches.{spreads-only, reach-long}
 use Rattle.reach_sets.specs.declared.NodeSet.{NodeSet}
-use Rattle.reach_sets.specs.Sets.{has, none, joined, setAt, joinedWith, callSet, setOf, setTable}
+use Rattle.reach_sets.specs.Sets.{has, noNodes, joined, setAt, joinedWith, callSet, setOf, setTable}
 use Rattle.reach_sets.proofs.Nodes.{has-none, has-joined}
 use Rattle.reach_sets.proofs.Fills.{has-flagged, table-set, table-long}
 
 -- one name more
-pub joining-name : (table names : List ℕ) (s : NodeSet) (i : ℕ) → joinedWith s table (drop i names) ≡ joinedWith none table names → i < length names
-    → (s′ : NodeSet) → s′ ≡ joined s (setAt table (getD names i 0)) → joinedWith s′ table (drop (i + 1) names) ≡ joinedWith none table names
+pub joining-name : (table names : List ℕ) (s : NodeSet) (i : ℕ) → joinedWith s table (drop i names) ≡ joinedWith noNodes table names → i < length names
+    → (s′ : NodeSet) → s′ ≡ joined s (setAt table (getD names i 0)) → joinedWith s′ table (drop (i + 1) names) ≡ joinedWith noNodes table names
 unfolding joinedWith
 joining-name table names s i inv h s′ e = rw e (rw (drop-step names i 0 refl h) at inv)
 
 -- all of them
-pub joining-last : (table names : List ℕ) (s : NodeSet) (i : ℕ) → joinedWith s table (drop i names) ≡ joinedWith none table names → length names ≤ i
-    → s ≡ joinedWith none table names
+pub joining-last : (table names : List ℕ) (s : NodeSet) (i : ℕ) → joinedWith s table (drop i names) ≡ joinedWith noNodes table names → length names ≤ i
+    → s ≡ joinedWith noNodes table names
 unfolding joinedWith
 joining-last table names s i inv h = rw (drop-of-length-le names {i = i} h) at inv
 
@@ -48,7 +48,7 @@ past-none n es name x h =
     (λ t. t))
 
 -- the set of a node in the table of the reaches
-reach-set : (n : ℕ) (es : List ℕ) (name y : ℕ) → y < 256 → has (setAt (setTable n es) name) y ≡ flagged (reach n es name) y
+pub reach-set : (n : ℕ) (es : List ℕ) (name y : ℕ) → y < 256 → has (setAt (setTable n es) name) y ≡ flagged (reach n es name) y
 reach-set n es name y h =
     bool (ltb name n)
     (λ t.
@@ -58,7 +58,7 @@ reach-set n es name y h =
     (λ t.
     let l = ltb-false name n t in
     let z : (i : ℕ) → 4 * name ≤ i → getD (setTable n es) i 0 ≡ 0 = λ i g. List·getD-eq-default (setTable n es) 0 {n = i} (omega (arith, table-long n es, l, g)) in
-    let e : setAt (setTable n es) name ≡ none = rw (z (4 * name) (omega arith), z (4 * name + 1) (omega arith), z (4 * name + 2) (omega arith), z (4 * name + 3) (omega arith)) refl in
+    let e : setAt (setTable n es) name ≡ noNodes = rw (z (4 * name) (omega arith), z (4 * name + 1) (omega arith), z (4 * name + 2) (omega arith), z (4 * name + 3) (omega arith)) refl in
     ap (λ (s : NodeSet). has s y) e ∙ has-none y ∙ sym (past-none n es name y l))
 
 -- a set, and those of the names
@@ -72,7 +72,7 @@ with-has n es s (name ∷ names) y h =
 
 -- THE SET OF A CALL has just the nodes that are in the reach of one of its names
 pub call-has : (n : ℕ) (es names : List ℕ) (y : ℕ) → y < 256 → has (callSet (setTable n es) names) y ≡ inReach n es names y
-call-has n es names y h = with-has n es none names y h ∙ ap (λ (b : Bool). b || inReach n es names y) (has-none y)
+call-has n es names y h = with-has n es noNodes names y h ∙ ap (λ (b : Bool). b || inReach n es names y) (has-none y)
 
 -- it has four words
 with-long : (table names : List ℕ) (s : NodeSet) → length (s .words) ≡ 4 → length ((joinedWith s table names) .words) ≡ 4
@@ -81,9 +81,9 @@ with-long table [] s l = l
 with-long table (name ∷ names) s l = with-long table names (joined s (setAt table name)) refl
 
 pub call-long : (table names : List ℕ) → length ((callSet table names) .words) ≡ 4
-call-long table names = with-long table names none refl
+call-long table names = with-long table names noNodes refl
 
 -- no name, no node
-pub call-none : (table : List ℕ) → callSet table [] ≡ none
+pub call-none : (table : List ℕ) → callSet table [] ≡ noNodes
 unfolding joinedWith
 call-none table = refl

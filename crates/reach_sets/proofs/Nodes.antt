@@ -14,7 +14,7 @@ use Rattle.lists.proofs.Bools.{bool, not-both, and-left, and-right}
 use Rattle.lists.proofs.Bounded.{any-stop, none-of}
 use Rattle.lists.proofs.Marks.{zero-at}
 use Rattle.reach_sets.specs.declared.NodeSet.{NodeSet}
-use Rattle.reach_sets.specs.Sets.{bit, wordAt, has, none, joined, meets}
+use Rattle.reach_sets.specs.Sets.{bit, wordAt, has, noNodes, joined, meets}
 use Rattle.reach_sets.specs.Inner.{singleOf, sameWords}
 use Rattle.reach_sets.proofs.Bits.{bit-two, either-digit, both-digits, or-bit, and-bit, single-same, single-other, nought-bit, same-bits, some-bit}
 
@@ -42,7 +42,7 @@ same-words a b e =
     (eqb-true (wordAt a 3) (wordAt b 3) (and-right (e0 && e1 && e2) e3 e))
 
 -- no node is in the set without one
-pub has-none : (node : ℕ) → has none node ≡ false
+pub has-none : (node : ℕ) → has noNodes node ≡ false
 has-none node = ap (λ (w : ℕ). eqb (bit w (node % 64)) 1) (zero-at 4 (node / 64)) ∙ ap (λ (b : ℕ). eqb b 1) (nought-bit (node % 64))
 
 -- nor is one from 256 on in any

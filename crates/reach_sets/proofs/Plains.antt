@@ -15,7 +15,7 @@ use Rattle.lists.proofs.Refusals.{refused-here, refused-later}
 use Rattle.hierarchy.specs.Hierarchy.{edgesOf, hierarchyChecks, sizeWrong, Legal}
 use Rattle.intervals.specs.Numbering.{numbering}
 use Rattle.intervals.specs.Intervals.{intervalTable}
-use Rattle.intervals.specs.Build.{numbersShort, numbersStep}
+use Rattle.intervals.specs.Build.{buildStep, numbersShort, numbersStep}
 use Rattle.hierarchy.proofs.Legals.{promised}
 use Rattle.intervals.proofs.Builds.{some-of, zeroed}
 use Rattle.intervals.proofs.Extremes.{numbering-long}
@@ -163,3 +163,10 @@ module _ (n : ℕ) (edges : List ℕ) (count : ℕ) (places : List ℕ) where
   pub room-built : Legal n edges count → (places′ : List ℕ) → places′ ≡ over table places
       → _≡_ {A = Answer (Unit {0})} (done tt) (answerOf judged tt) × (places′ ≡ roomAfter judged table places)
   room-built legal places′ e = (ap (λ (o : Option ℕ). answerOf o tt) (sym legal), e ∙ ap (λ (o : Option ℕ). roomAfter o table places) (sym legal))
+
+-- WITH ENOUGH SCRATCH FOR EACH the plain engine answers what building answers, and leaves the same in the interval places
+pub plain-agrees : (n : ℕ) (edges : List ℕ) (count : ℕ) (places scratch words : List ℕ) → 2048 ≤ length scratch → 1024 ≤ length words
+    → (plainStep n edges count places words .answer ≡ buildStep n edges count places scratch .answer)
+    × (plainStep n edges count places words .places ≡ buildStep n edges count places scratch .places)
+unfolding plainStep buildStep
+plain-agrees n edges count places scratch words h k = rw (le-ltb (length scratch) 2048 h, le-ltb (length words) 1024 k) (refl, refl)

@@ -11,7 +11,7 @@ use lib.Seq.{getD-set-same, getD-set-other, ext-getD}
 use borrow.Author.Tests.{lt-ltb, eqb-true, eqb-false}
 use Rattle.lists.proofs.Bools.{bool, not-both}
 use Rattle.reach_sets.specs.declared.NodeSet.{NodeSet}
-use Rattle.reach_sets.specs.Sets.{wordAt, setAt, stored, setTo}
+use Rattle.reach_sets.specs.Sets.{wordAt, setAt, storedAt, setTo}
 use Rattle.reach_sets.specs.Inner.{singleOf, sameWords, room}
 use Rattle.reach_sets.proofs.Nodes.{four}
 
@@ -32,20 +32,20 @@ module _ (t : List ℕ) (node : ℕ) (s : NodeSet) where
   abbrev t3 : List ℕ
   t3 = set t2 (4 * node + 2) (wordAt s 2)
 
-  stored-long : length (stored t node s) ≡ length t
+  stored-long : length (storedAt t node s) ≡ length t
   stored-long =
       length-set t3 (4 * node + 3) (wordAt s 3) ∙ length-set t2 (4 * node + 2) (wordAt s 2) ∙ length-set t1 (4 * node + 1) (wordAt s 1)
       ∙ length-set t (4 * node) (wordAt s 0)
 
   -- another place stays
-  stored-off : (i : ℕ) → (i ≡ 4 * node → ⊥) → (i ≡ 4 * node + 1 → ⊥) → (i ≡ 4 * node + 2 → ⊥) → (i ≡ 4 * node + 3 → ⊥) → getD (stored t node s) i 0 ≡ getD t i 0
+  stored-off : (i : ℕ) → (i ≡ 4 * node → ⊥) → (i ≡ 4 * node + 1 → ⊥) → (i ≡ 4 * node + 2 → ⊥) → (i ≡ 4 * node + 3 → ⊥) → getD (storedAt t node s) i 0 ≡ getD t i 0
   stored-off i a b c d =
       getD-set-other t3 (4 * node + 3) i (wordAt s 3) 0 d
       ∙ getD-set-other t2 (4 * node + 2) i (wordAt s 2) 0 c
       ∙ getD-set-other t1 (4 * node + 1) i (wordAt s 1) 0 b
       ∙ getD-set-other t (4 * node) i (wordAt s 0) 0 a
 
-  stored-other : (x : ℕ) → (x ≡ node → ⊥) → setAt (stored t node s) x ≡ setAt t x
+  stored-other : (x : ℕ) → (x ≡ node → ⊥) → setAt (storedAt t node s) x ≡ setAt t x
   stored-other x d =
       rw (
         stored-off (4 * x) (λ e. d (omega (arith, e))) (λ e. absurd (omega (arith, e))) (λ e. absurd (omega (arith, e))) (λ e. absurd (omega (arith, e))),
@@ -64,7 +64,7 @@ module _ (t : List ℕ) (node : ℕ) (s : NodeSet) where
     long3 : length t3 ≡ length t
     long3 = length-set t2 (4 * node + 2) (wordAt s 2) ∙ long2
 
-    stored-same : length (s .words) ≡ 4 → setAt (stored t node s) node ≡ s
+    stored-same : length (s .words) ≡ 4 → setAt (storedAt t node s) node ≡ s
     stored-same l =
         rw (
           getD-set-other t3 (4 * node + 3) (4 * node) (wordAt s 3) 0 (λ e. absurd (omega (arith, e)))
@@ -81,7 +81,7 @@ module _ (t : List ℕ) (node : ℕ) (s : NodeSet) where
 
   -- a node's set put into the table
   module _ (h : node < length t / 4) where
-    pub put-is : setTo t node s ≡ stored t node s
+    pub put-is : setTo t node s ≡ storedAt t node s
     put-is = rw (lt-ltb node (length t / 4) h) refl
 
     pub put-same : length (s .words) ≡ 4 → setAt (setTo t node s) node ≡ s
@@ -124,7 +124,7 @@ not-all a a′ b b′ c c′ d d′ ha hb hc hd e =
 
 module _ (t : List ℕ) (node : ℕ) (s : NodeSet) (h : 4 * node + 3 < length t) (small : (i : ℕ) → getD t i 0 < 2 ^ 64) (fits : (k : ℕ) → k < 4 → wordAt s k < 2 ^ 64) where
   -- four words stored
-  room-stored : room (stored t node s) + (wordAt s 0 + wordAt s 1 + wordAt s 2 + wordAt s 3)
+  room-stored : room (storedAt t node s) + (wordAt s 0 + wordAt s 1 + wordAt s 2 + wordAt s 3)
       ≡ room t + (getD t (4 * node) 0 + getD t (4 * node + 1) 0 + getD t (4 * node + 2) 0 + getD t (4 * node + 3) 0)
   room-stored =
       let a1 : getD (t1 t node s) (4 * node + 1) 0 ≡ getD t (4 * node + 1) 0 = getD-set-other t (4 * node) (4 * node + 1) (wordAt s 0) 0 (λ e. absurd (omega (arith, e))) in
@@ -142,7 +142,7 @@ module _ (t : List ℕ) (node : ℕ) (s : NodeSet) (h : 4 * node + 3 < length t)
       omega (arith, a1, a2, a3, r0, r1, r2, r3)
 
   -- a set that grew leaves less
-  pub room-falls : ((k : ℕ) → k < 4 → wordAt (setAt t node) k ≤ wordAt s k) → sameWords (setAt t node) s ≡ false → room (stored t node s) < room t
+  pub room-falls : ((k : ℕ) → k < 4 → wordAt (setAt t node) k ≤ wordAt s k) → sameWords (setAt t node) s ≡ false → room (storedAt t node s) < room t
   room-falls more other =
       let grew = not-all (wordAt (setAt t node) 0) (wordAt s 0) (wordAt (setAt t node) 1) (wordAt s 1) (wordAt (setAt t node) 2) (wordAt s 2) (wordAt (setAt t node) 3) (wordAt s 3)
       (more 0 (omega arith)) (more 1 (omega arith)) (more 2 (omega arith)) (more 3 (omega arith)) other in

@@ -24,7 +24,7 @@ setsShort n edges edgeCount words = ltb (length words) (4 * n) || ltb (length ed
 abbrev pub setsRefusal : ℕ → List ℕ → ℕ → List ℕ → Option ℕ
 setsRefusal n edges edgeCount words = refusal (1 when setsShort n edges edgeCount words ∷ hierarchyChecks n edges edgeCount)
 
--- its answer, and the set of each node from the first word on
+-- its answer, and the set of each node from the first word on; a refusal changes nothing, and words behind stay
 unfoldable pub setsStep : ℕ → List ℕ → ℕ → List ℕ → SetsResult
 setsStep n edges edgeCount words =
     record {

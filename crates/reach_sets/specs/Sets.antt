@@ -22,8 +22,8 @@ abbrev pub has : NodeSet → ℕ → Bool
 has s node = eqb (bit (wordAt s (node / 64)) (node % 64)) 1
 
 -- the set without a node
-abbrev pub none : NodeSet
-none = record { words = replicate 4 0 }
+abbrev pub noNodes : NodeSet
+noNodes = record { words = replicate 4 0 }
 
 -- the nodes of both sets: their words joined by or
 abbrev pub joined : NodeSet → NodeSet → NodeSet
@@ -41,19 +41,19 @@ joined a b =
 abbrev pub meets : NodeSet → NodeSet → Bool
 meets a b = anyBelow 256 (λ node. has a node && has b node)
 
--- TABLES, four words for each node. The set of a node; past the table it is empty
+-- TABLES, four words for each node. The set of a node; a word past the table is 0
 abbrev pub setAt : List ℕ → ℕ → NodeSet
 setAt table node =
     record { words = getD table (4 * node) 0 ∷ getD table (4 * node + 1) 0 ∷ getD table (4 * node + 2) 0 ∷ getD table (4 * node + 3) 0 ∷ [] }
 
 -- the four words of a node replaced
-abbrev pub stored : List ℕ → ℕ → NodeSet → List ℕ
-stored table node s =
+abbrev pub storedAt : List ℕ → ℕ → NodeSet → List ℕ
+storedAt table node s =
     set (set (set (set table (4 * node) (wordAt s 0)) (4 * node + 1) (wordAt s 1)) (4 * node + 2) (wordAt s 2)) (4 * node + 3) (wordAt s 3)
 
 -- the table with a node's set in it; a node that it has no four words for is passed over
 abbrev pub setTo : List ℕ → ℕ → NodeSet → List ℕ
-setTo table node s = cond (ltb node (length table / 4)) (stored table node s) table
+setTo table node s = cond (ltb node (length table / 4)) (storedAt table node s) table
 
 -- a set and those of these nodes, one after the other
 unfoldable pub joinedWith : NodeSet → List ℕ → List ℕ → NodeSet
@@ -62,7 +62,7 @@ joinedWith s table (name ∷ names) = joinedWith (joined s (setAt table name)) t
 
 -- the set of a call that names these nodes
 abbrev pub callSet : List ℕ → List ℕ → NodeSet
-callSet table names = joinedWith none table names
+callSet table names = joinedWith noNodes table names
 
 -- REACH. Flags as the bits of a word, the first of them the lowest
 unfoldable pub wordOf : List ℕ → ℕ

@@ -12,7 +12,7 @@ ghost use Rattle.hierarchy.specs.Hierarchy.{edgesOf, flagged, hierarchyChecks};
 ghost use Rattle.hierarchy.specs.Inner.{Edges};
 ghost use Rattle.intervals.specs.Intervals.{numbersAmong, intervalTable};
 ghost use Rattle.intervals.specs.Build.{buildMeaning};
-ghost use Rattle.reach_sets.specs.Sets.{none as noNodes, has as having, joined as union, meets as meeting, setAt, setTo, callSet, setTable};
+ghost use Rattle.reach_sets.specs.Sets.{noNodes, has as having, joined as union, meets as meeting, setAt, setTo, callSet, setTable};
 ghost use Rattle.reach_sets.specs.Plain.{setsStep, plainShort, plainStep};
 ghost use Rattle.reach_sets.specs.Inner.{singleOf, sameWords, room, Joins, Kept, Settled, Fillable, countedIf, lessOf, Spannable, Writable};
 use intervals::BuildAnswer;
@@ -98,7 +98,7 @@ fn word_at(table: &[u64], i: usize) -> u64
     0
 }
 
-// The set of a node; past the end of the table it is empty.
+// The set of a node; a word past the end of the table is 0.
 pub fn set_at(table: &[u64], node: usize) -> NodeSet
     ensures { λ r. ⌜ r ≡ setAt (now (table .entry)) node ⌝ }
 {

@@ -1,16 +1,17 @@
 -- THE THEOREMS OF THE DESK, in full, in the order of the customer's demands. Each is proved by citing the one that a crate below proves: with a hypothesis
 -- more or a clause less there it would no longer fit. What the terms mean is in the definitions, crates/*/specs; what each function does is its contract, in
 -- crates/*/src, where demand 1 is carried: no public function has a `requires`, and each result is equated with a definition. Assumes nothing.
-use mathlib.Core.Path.{_≡_, refl, sym, ap}
+use mathlib.Core.Path.{_≡_, refl, sym, ap, _∙_}
 use mathlib.Core.Logic.{_⊎_}
 use mathlib.Core.List.{List, [], _∷_, _++_, map}
 use mathlib.Core.Bool.{true, false, cond}
 use mathlib.Core.Option.{none}
-use Prim.Native.Nat.{ℕ, _*_, _≤_, _<_}
+use Prim.Native.Nat.{ℕ, _*_, _≤_, _<_, max}
+use native.Mathlib.Omega.{arith}
 use lib.Dec.{ltb}
 use borrow.Author.Tests.{lt-ltb}
 use lib.ListN.{length, getD, take, replicate}
-use Rattle.lists.specs.Lists.{every, any, over, Below}
+use Rattle.lists.specs.Lists.{every, any, count, over, Below}
 use Rattle.lists.specs.Answer.{done, refused}
 use Rattle.hierarchy.specs.Hierarchy.{edgesOf, Edge, Reach, reach, Legal}
 use Rattle.intervals.specs.Numbering.{numbering}
@@ -34,10 +35,16 @@ use Rattle.desk.specs.Answers.{Enters, Gets, Puts, Leaves}
 use Rattle.history.specs.Results.{Result, enter, get, put, leave, Made, Meets, deskFrom, valuesFrom, AllMeet, toldByAll, lastDesk, lastValues}
 use Rattle.soundness.specs.Refused.{refusedWith}
 use Rattle.file_laws.specs.Files.{eventsOf}
-use Rattle.replay.specs.Replay.{waits, stored, left, FileRun, granted as admitted, refused as denied, recordList, stepRecords, sizeOf, answersOf, performAll, runFile}
+use Rattle.replay.specs.Replay.{waits, stored, left, FileRun, granted as admitted, refused as denied, recordList, stepRecords, sizeOf, edgeTable, edgeCountOf, answersOf}
+use Rattle.replay.specs.Replay.{performAll, runFile}
 use Rattle.blocks.specs.File.{fileRecords}
 use Rattle.examples.specs.Cases.{intervals, cover, apart, listing, passes}
 use Rattle.examples.specs.Table.{T, shared, bytes16, fileT, fileShared, starred}
+use Rattle.trees.specs.Tree.{parentCount}
+use Rattle.reach_sets.specs.Sets.{has, setAt, setTable}
+use Rattle.reach_sets.specs.Plain.{plainStep}
+use Rattle.needless.specs.Waits.{noWaits, reachesMeet, waitsOf}
+use Rattle.needless_laws.specs.Visits.{OneEach}
 use Rattle.lists.proofs.Members.{In}
 use Rattle.interval_laws.proofs.Laws as laws
 use Rattle.intervals.proofs.Covers as closest-laws
@@ -58,6 +65,14 @@ use Rattle.lines.specs.Pieces.{writtenOf, inPieces, partsIn}
 use Rattle.opening.proofs.Opens as opens
 use Rattle.lines.proofs.Fits as fits
 use Rattle.lines.proofs.Parts as parts
+use Rattle.trees.proofs.Trees as tree
+use Rattle.reach_sets.proofs.Plains as plain
+use Rattle.reach_sets.proofs.Calls as called
+use Rattle.needless.proofs.Files as reports
+use Rattle.needless_laws.proofs.Counts as counts
+use Rattle.needless_laws.proofs.Counts.{isWaits}
+use Rattle.needless_laws.proofs.Meets as meets
+use Rattle.needless_laws.proofs.Needless as none-needless
 use Rattle.examples.proofs.Starred as computed
 
 -- DEMAND 1, as far as it is not a contract: a refusal changes nothing. Of enter, the desk
@@ -420,6 +435,59 @@ results-sound : (H : Hierarchy) (places scratch : List ℕ) → BuiltIn H places
 results-sound H places scratch b values sized made c =
     let all = all-met H freshDesk values made c in
     (never.results-sound H (built-in H places scratch b) values sized made all, never.results-never-ten H (built-in H places scratch b) values sized made all)
+
+-- 02, POINT 2. THE PLAIN ENGINE's intervals are the desk's: with enough scratch for each, it answers what building answers and leaves the same in the interval
+-- places, on every input
+plain-agrees : (n : ℕ) (edges : List ℕ) (edgeCount : ℕ) (places scratch words : List ℕ) → 2048 ≤ length scratch → 1024 ≤ length words
+    → ((plainStep n edges edgeCount places words) .answer ≡ (buildStep n edges edgeCount places scratch) .answer)
+    × ((plainStep n edges edgeCount places words) .places ≡ (buildStep n edges edgeCount places scratch) .places)
+plain-agrees = plain.plain-agrees
+
+-- of a legal hierarchy, a node is in the set of another just where that reaches it
+set-reach : (n : ℕ) (table : List ℕ) (edgeCount : ℕ) → Legal n table edgeCount → (x y : ℕ) → x < n → y < 256
+    → let es = edgesOf table edgeCount in (Reach es x y → has (setAt (setTable n es) x) y ≡ true) × (has (setAt (setTable n es) x) y ≡ true → Reach es x y)
+set-reach n table edgeCount legal x y h g =
+    let e = called.reach-set n (edgesOf table edgeCount) x y g in
+    (λ w. e ∙ meets.flag-reached n table edgeCount legal x y h w, λ t. meets.reached-flag n table edgeCount legal x y h (sym e ∙ t))
+
+-- THE REPORT. Its first number counts the enters of the file's run that were answered `waits`,
+waits-counted : (file : List ℕ) (r : FileRun) → runFile file ≡ done r → (waitsOf file) .all ≡ count isWaits (r .answers)
+waits-counted = counts.waits-counted
+
+-- a refused file or hierarchy has none,
+refused-waits : (file : List ℕ) (k : ℕ) → runFile file ≡ refused k → waitsOf file ≡ noWaits
+refused-waits = reports.refused-waits
+
+-- and its second number is at most the first
+waits-most : (file : List ℕ) → (waitsOf file) .needless ≤ (waitsOf file) .all
+waits-most = counts.waits-most
+
+-- what it asks of reaches is the paper's: over a legal hierarchy the reach of named nodes meets that of others just where a way leads from one of the names
+-- and a way from one of the others to one node
+meet-reach : (n : ℕ) (table : List ℕ) (edgeCount : ℕ) → Legal n table edgeCount → (names others : List ℕ)
+    → ((r : ℕ) → In r names → r < n) → ((r : ℕ) → In r others → r < n) → let es = edgesOf table edgeCount in
+    (reachesMeet n es names others ≡ true → (a b z : ℕ) × In a names × In b others × Reach es a z × Reach es b z)
+    × ((a b z : ℕ) × In a names × In b others × Reach es a z × Reach es b z → reachesMeet n es names others ≡ true)
+meet-reach = meets.meet-reach
+
+-- where each node but the root has exactly one parent, the intervals of two nodes share a number just where their reaches meet,
+share-exactly : (n : ℕ) (table : List ℕ) (edgeCount : ℕ) → Legal n table edgeCount
+    → ((node : ℕ) → node < n → (node ≡ 0 → ⊥) → parentCount (edgesOf table edgeCount) node ≡ 1) → (x y : ℕ) → x < n → y < n → let es = edgesOf table edgeCount in
+    ((lowOf n es x ≤ highOf n es y) × (lowOf n es y ≤ highOf n es x) → (z : ℕ) × Reach es x z × Reach es y z)
+    × ((z : ℕ) × Reach es x z × Reach es y z → (lowOf n es x ≤ highOf n es y) × (lowOf n es y ≤ highOf n es x))
+share-exactly n table edgeCount legal each x y hx hy =
+    let es = edgesOf table edgeCount in
+    let t = tree.share-exactly n table edgeCount (legal, tree.each-one n es each) x y hx hy in
+    let rx = laws.interval-real n table edgeCount legal x hx .ordered in
+    let ry = laws.interval-real n table edgeCount legal y hy .ordered in (
+      λ s. t .0 (record { number = max (lowOf n es x) (lowOf n es y); in-first = (omega arith, omega (arith, rx, s .1)); in-second = (omega arith, omega (arith, ry, s .0)) }),
+      λ m. let s = t .1 m in (omega (arith, s .in-first, s .in-second), omega (arith, s .in-first, s .in-second)),
+    )
+
+-- and if each enter of a file that is not refused names one node (`OneEach`), however often, no wait of the file is needless
+file-needless : (file : List ℕ) → let rs = recordList (fileRecords file) in
+    ((node : ℕ) → node < sizeOf rs → (node ≡ 0 → ⊥) → parentCount (edgesOf (edgeTable rs) (edgeCountOf rs)) node ≡ 1) → OneEach rs → (waitsOf file) .needless ≡ 0
+file-needless file each = let rs = recordList (fileRecords file) in none-needless.file-needless file (tree.each-one (sizeOf rs) (edgesOf (edgeTable rs) (edgeCountOf rs)) each)
 
 -- THE STARRED CASES, with the papers' figures, those of {8} and of the listing as document 02's point 1 has them: each passes, by computation. Table T and the
 -- table of the ninth case

@@ -1,5 +1,5 @@
 -- THEOREMS about trees: one parent, contiguity, and what it is to share a number. Assumes nothing.
-use mathlib.Core.Path.{_≡_, refl, sym, _∙_, subst}
+use mathlib.Core.Path.{_≡_, refl, sym, ap, _∙_, subst}
 use mathlib.Core.Logic.{_⊎_, ⊎-elim}
 use mathlib.Core.List.{List, [], _∷_}
 use mathlib.Core.Bool.{Bool, true, false, _||_, or-true}
@@ -42,6 +42,14 @@ none-several (a ∷ b ∷ es) h f =
     not-both (someEdge (sameEdge a b) es) (subst (λ (x : ℕ). someEdge (sameEdge x b) es ≡ true) (sym q) (same-found (e .1))) (or-left (someEdge (sameEdge a b) es) (edgeTwice es) h))
     (λ t. t))
     (none-several es (or-right (someEdge (sameEdge a b) es) (edgeTwice es) h) (λ p q c d e. f p q c (later d) (later e)))
+
+-- each node but the root has exactly one parent, node by node
+pub each-one : (n : ℕ) (es : List ℕ) → ((node : ℕ) → node < n → (node ≡ 0 → ⊥) → parentCount es node ≡ 1) → oneParentEach n es ≡ true
+each-one n es each =
+    all-of (λ node. eqb node 0 || eqb (parentCount es node) 1) n
+    (λ node h. bool (eqb node 0)
+    (λ t. ap (_|| eqb (parentCount es node) 1) t)
+    (λ t. ap (eqb node 0 ||_) (eq-eqb (parentCount es node) 1 (each node h (eqb-false node 0 t))) ∙ or-true (eqb node 0)))
 
 module _ (n : ℕ) (table : List ℕ) (edgeCount : ℕ) where
   abbrev es : List ℕ

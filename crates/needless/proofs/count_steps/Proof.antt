@@ -1,5 +1,5 @@
 -- `count_steps` meets its contract: the waits so far and those of the records left come to the same, from the fresh desk to the end. Assumes nothing.
-use mathlib.Core.Path.{_≡_, refl, sym, ap, _∙_}
+use mathlib.Core.Path.{_≡_, sym, ap, ap₂, _∙_}
 use mathlib.Core.Bool.{true}
 use mathlib.Core.List.{List, []}
 use Prim.Native.Nat.{ℕ, _+_, _-_, _*_, _/_, _<_}
@@ -10,7 +10,7 @@ use Rattle.desk.specs.declared.Desk.{Desk}
 use Rattle.replay.specs.Replay.{recordList, isRecord}
 use Rattle.replay.specs.Inner.{recordAt}
 use Rattle.replay.proofs.Records.{records-length, records-at}
-use Rattle.needless.specs.Waits.{noWaits}
+use Rattle.needless.specs.declared.Waits.{Waits}
 use Rattle.needless.proofs.Tallies.{record-at, Counting, counting-start, counting-few, counting-more, counting-end}
 use borrow.Author.Needs.{needs}
 use Rattle.needless.proofs.count_steps.Statement.{statement}
@@ -26,7 +26,7 @@ abbrev μ-loop : tie.MeasureT-loop
 -- the record that a turn reads
 module _ (l : tie.In-loop Inv-loop μ-loop) where
   abbrev s : tie.Start Inv-loop μ-loop
-  s = l .before .before .before .before .before .before .before .before .before
+  s = l .before .before .before .before .before .before .before .before .before .before
 
   abbrev i : ℕ
   i = l .before .loop .i
@@ -46,15 +46,15 @@ module _ (l : tie.In-loop Inv-loop μ-loop) where
       records-at (s .args .records .now) i (omega (arith, l .loop-test .taken)) ∙ sym (ap (λ (k : ℕ). take k (drop (16 * i) (s .args .records .now))) cut)
 
 loop-holds : tie.Need-loop-holds Inv-loop μ-loop
-loop-holds c = let s = c .before .before .before .before .before .before .before in let a = s .args in
+loop-holds c = let s = c .before .before .before .before .before .before .before .before in let a = s .args in
     counting-start (lent (a .n) (a .intervals .now) (a .edges .now) (a .edge-count)) (a .sets .now) (recordList (a .records .now)) (a .values .now)
-    _ (a .called .now) (ap (λ (d : Desk). record { desk = d; waits = noWaits }) (c .fresh .ensures)) (s .pre .1 .1 .1) (s .pre .1 .1 .0)
+    _ (a .called .now) (ap₂ (λ (d : Desk) (w : Waits). record { desk = d; waits = w }) (c .before .fresh .ensures) (c .no-waits .ensures)) (s .pre .1 .1 .1) (s .pre .1 .1 .0)
 
 mul-from : tie.Need-mul-from Inv-loop μ-loop
-mul-from c = omega (arith, c .loop-test .taken, c .before .before .before .before .before .before .before .before .before .good)
+mul-from c = omega (arith, c .loop-test .taken, s c .good)
 
 add-to : tie.Need-add-to Inv-loop μ-loop
-add-to c = omega (arith, c .loop-test .taken, c .before .before .before .before .before .before .before .before .before .good)
+add-to c = omega (arith, c .loop-test .taken, s c .good)
 
 sub-count-step : tie.Need-sub-count-step Inv-loop μ-loop
 sub-count-step c = omega arith
@@ -70,11 +70,7 @@ count-step-requires c κs = let l = c .before .before .before in let a = s l .ar
     )
 
 add-i : tie.Need-add-i Inv-loop μ-loop
-add-i c = omega (
-  arith,
-  c .before .before .before .before .before .before .before .before .loop-test .taken,
-  c .before .before .before .before .before .before .before .before .before .before .before .before .before .before .before .before .before .good,
-)
+add-i c = let l = c .before .before .before .before .before .before .before .before in omega (arith, l .loop-test .taken, s l .good)
 
 loop-less : tie.Need-loop-less Inv-loop μ-loop
 loop-less c = omega (arith, c .before .before .before .before .before .before .before .before .loop-test .taken)
@@ -89,10 +85,10 @@ same-length : tie.Need-same-length Inv-loop μ-loop
 same-length c = c .before .before .loop .inv .values-long
 
 same-length-2 : tie.Need-same-length-2 Inv-loop μ-loop
-same-length-2 c = c .before .before .loop .inv .called-for .long ∙ sym (ap length (c .before .before .before .before .before .before .before .before .before .before .pre .1 .1 .0))
+same-length-2 c = c .before .before .loop .inv .called-for .long ∙ sym (ap length (c .before .before .before .before .before .before .before .before .before .before .before .pre .1 .1 .0))
 
 returns : tie.Need-returns Inv-loop μ-loop
-returns c = let l = c .before .before in let s = l .before .before .before .before .before .before .before .before in let a = s .args in
+returns c = let l = c .before .before in let s = l .before .before .before .before .before .before .before .before .before in let a = s .args in
     counting-end (lent (a .n) (a .intervals .now) (a .edges .now) (a .edge-count)) (a .sets .now) (recordList (a .records .now)) (a .values .now) (l .loop .i) (l .loop .progress)
     (l .loop .values) (l .loop .called) (l .loop .inv) (omega (arith, records-length (a .records .now), c .before .loop-test .left))
 
@@ -102,6 +98,7 @@ count-steps-spec =
     (tie.spec
     Inv-loop
     μ-loop
+    (λ c κs. search needs)
     (λ c κs. search needs)
     loop-holds
     mul-from

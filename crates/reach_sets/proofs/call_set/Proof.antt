@@ -4,14 +4,14 @@ use Prim.Native.Nat.{ℕ, _-_}
 use native.Mathlib.Omega.{arith}
 use lib.ListN.{length, drop}
 use Rattle.reach_sets.specs.declared.NodeSet.{NodeSet}
-use Rattle.reach_sets.specs.Sets.{none, joinedWith}
+use Rattle.reach_sets.specs.Sets.{noNodes, joinedWith}
 use Rattle.reach_sets.proofs.Calls.{joining-name, joining-last}
 use borrow.Author.Needs.{needs}
 use Rattle.reach_sets.proofs.call_set.Statement.{statement}
 use Rattle.reach_sets.proofs.call_set.Tie as tie
 
 abbrev Inv-loop : tie.InvT-loop
-Inv-loop table names set₀ i₀ set i = joinedWith set table (drop i names) ≡ joinedWith none table names
+Inv-loop table names set₀ i₀ set i = joinedWith set table (drop i names) ≡ joinedWith noNodes table names
 
 abbrev μ-loop : tie.MeasureT-loop
 μ-loop table names set₀ i₀ set i = length names - i
