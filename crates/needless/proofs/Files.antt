@@ -1,23 +1,21 @@
 -- A file that is refused has no wait, and one that was opened has those of its steps. Assumes nothing.
 use mathlib.Core.Path.{_≡_, refl, sym, ap, _∙_}
-use mathlib.Core.List.{List, [], _∷_}
+use mathlib.Core.List.{List, _∷_}
 use mathlib.Core.Bool.{true}
 use mathlib.Core.Option.{Option, none, some}
 use Prim.Native.Nat.{ℕ, zero, suc, _*_, _≤_}
 use native.Mathlib.Omega.{arith}
-use lib.ListN.{length, take, replicate}
-use lib.Seq.{length-take-le, take-take}
-use Rattle.lists.specs.Answer.{Answer, done, refused, refusal}
+use lib.ListN.{take, replicate}
+use Rattle.lists.specs.Answer.{refused, refusal}
 use Rattle.lists.proofs.Bools.{not-both}
-use Rattle.hierarchy.specs.Hierarchy.{edgesOf, hierarchyChecks}
-use Rattle.blocks.specs.File.{fileChecks, fileRecords}
+use Rattle.hierarchy.specs.Hierarchy.{hierarchyChecks}
+use Rattle.blocks.specs.File.{fileChecks}
 use Rattle.locks.specs.Lent.{Hierarchy, lent}
-use Rattle.replay.specs.Replay.{FileRun, fileRun, recordList, sizeOf, edgeTable, edgeCountOf, stepRecords, builtOf, startOf, performAll, runUnless, runRecords, fileUnless as runFileUnless, runFile}
+use Rattle.replay.specs.Replay.{recordList, sizeOf, edgeTable, edgeCountOf, stepRecords, builtOf, startOf, runUnless, runRecords, fileUnless as runFileUnless, runFile}
 use Rattle.opening.specs.Opening.{fileRows}
 use Rattle.opening.proofs.Opens.{Ready}
 use Rattle.needless.specs.declared.Waits.{Waits}
 use Rattle.needless.specs.Waits.{noWaits, nothingNamed, waitsOfSteps, recordsUnless, waitsOfRecords, fileUnless, waitsOf}
-use Rattle.needless.specs.Inner.{Countable}
 
 -- REFUSED, as a file or as a hierarchy
 pub refused-waits : (file : List ℕ) (k : ℕ) → runFile file ≡ refused k → waitsOf file ≡ noWaits

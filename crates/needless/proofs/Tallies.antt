@@ -1,7 +1,7 @@
 -- What a record adds to the waits, and what is left to count after it. Assumes nothing.
-use mathlib.Core.Path.{_≡_, refl, sym, ap, ap₂, _∙_}
+use mathlib.Core.Path.{_≡_, refl, sym, ap, _∙_}
 use mathlib.Core.List.{List, [], _∷_}
-use mathlib.Core.Bool.{Bool, true, false, not, cond}
+use mathlib.Core.Bool.{Bool, true, false, not}
 use Prim.Native.Nat.{ℕ, zero, suc, _+_, _≤_, _<_}
 use native.Mathlib.Omega.{arith}
 use lib.Dec.{leb}
@@ -15,7 +15,6 @@ use Rattle.octets.specs.Bytes.{byte}
 use Rattle.blocks.specs.Record.{kindOf, partyIn, modeIn, namesIn}
 use Rattle.locks.specs.Locks.{modeNumbered}
 use Rattle.locks.specs.Lent.{Hierarchy}
-use Rattle.desk.specs.declared.Desk.{Desk}
 use Rattle.runs.specs.Run.{State}
 use Rattle.replay.specs.declared.Outcome.{Outcome}
 use Rattle.replay.specs.declared.Step.{Step}
@@ -25,7 +24,7 @@ use Rattle.replay.proofs.Outcomes.{performs-state}
 use Rattle.reach_sets.specs.Sets.{callSet}
 use Rattle.needless.specs.declared.Waits.{Waits}
 use Rattle.needless.specs.declared.Progress.{Progress}
-use Rattle.needless.specs.Waits.{noWaits, oneWait, plus, nothingNamed, namedAfter, isNeedless, waitsBy, waitsOfStep, waitsOfSteps}
+use Rattle.needless.specs.Waits.{noWaits, plus, nothingNamed, namedAfter, isNeedless, waitsBy, waitsOfStep, waitsOfSteps}
 use Rattle.needless.specs.Inner.{someInWay, visits, waited, waitsIf, calledAfter, Sets, Called, waitsLeft, Counted}
 use Rattle.needless.proofs.Ways.{some-way, called-start, called-more}
 
@@ -118,7 +117,8 @@ module _ (H : Hierarchy) (sets bytes : List ℕ) (p : Progress) (values called :
               ∙ ap (λ (t : Bool). plus (p .waits) (waitsBy (made .answer) (not t)))
               (some-way (H .n) (edgesOf (H .edges) (H .edgeCount)) sets fine (p .desk .entries) named called c (modeNumbered (modeIn bytes)) (namesIn bytes)) in
               ap (λ (w : Waits). plus w (waitsOfSteps (stateOf H (s .desk) values′) (namedAfter bytes (made .answer) named) (stepRecords rs))) here
-              ∙ ap (λ (x : State). plus (plus (p .waits) (waitsOfStep (stateOf H (p .desk) values) named bytes (made .answer))) (waitsOfSteps x (namedAfter bytes (made .answer) named) (stepRecords rs))) state
+              ∙ ap (λ (x : State). plus (plus (p .waits) (waitsOfStep (stateOf H (p .desk) values) named bytes (made .answer)))
+              (waitsOfSteps x (namedAfter bytes (made .answer) named) (stepRecords rs))) state
               ∙ plus-assoc (p .waits) (waitsOfStep (stateOf H (p .desk) values) named bytes (made .answer)) (waitsOfSteps (made .state) (namedAfter bytes (made .answer) named) (stepRecords rs))
               ∙ ap (λ (b : Bool). plus (p .waits) (waitsOfSteps (stateOf H (p .desk) values) named (keptIf b bytes (stepRecords rs)))) (sym is-step);
         }

@@ -1,11 +1,11 @@
 -- Who stands in a newcomer's way, by the sets of the calls, as by the reaches of the names. Assumes nothing.
 use mathlib.Core.Path.{_≡_, refl, sym, ap, ap₂, _∙_}
 use mathlib.Core.List.{List, [], _∷_}
-use mathlib.Core.Bool.{Bool, true, false, not, _&&_}
+use mathlib.Core.Bool.{false, not, _&&_}
 use Prim.Native.Nat.{ℕ, zero, suc, _+_, _-_, _*_, _/_, _≤_, _<_}
 use native.Mathlib.Omega.{arith}
 use lib.Dec.{eqb, ltb}
-use lib.ListN.{length, getD, set, replicate, length-set, length-replicate, List·getD-eq-default}
+use lib.ListN.{length, getD, set, replicate, length-set, List·getD-eq-default}
 use lib.Seq.{getD-set-same, getD-set-other, set-out}
 use borrow.Author.Tests.{eqb-true, eqb-false, ltb-true, ltb-false, le-ltb}
 use Rattle.lists.specs.Lists.{any, anyBelow}
@@ -21,7 +21,7 @@ use Rattle.locks.specs.Locks.{bothReading}
 use Rattle.parties.specs.declared.Entry.{Entry}
 use Rattle.parties.specs.Parties.{stageIn}
 use Rattle.reach_sets.specs.declared.NodeSet.{NodeSet}
-use Rattle.reach_sets.specs.Sets.{has, meets, setAt, setTo, joinedWith, callSet, setTable}
+use Rattle.reach_sets.specs.Sets.{meets, setTo, joinedWith, callSet}
 use Rattle.reach_sets.proofs.Stores.{put-same, put-other, put-long}
 use Rattle.reach_sets.proofs.Calls.{call-has, call-long}
 use Rattle.needless.specs.Waits.{nothingNamed, namesOf, reachesMeet, inWay}

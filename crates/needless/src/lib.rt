@@ -1,16 +1,14 @@
 // The report over a file (02, point 2): all waits, and the needless ones.
 ghost use mathlib.Core.Path.{_≡_};
 ghost use mathlib.Core.Bool.{true, not};
-ghost use mathlib.Core.List.{List};
-ghost use Prim.Native.Nat.{ℕ, _+_, _*_, _<_, _≤_};
+ghost use Prim.Native.Nat.{_+_, _*_, _<_, _≤_};
 ghost use lib.ListN.{length, take, replicate};
-ghost use Rattle.lists.specs.Lists.{one, every, anyBelow};
-ghost use Rattle.hierarchy.specs.Hierarchy.{edgesOf, Legal};
+ghost use Rattle.lists.specs.Lists.{one, every};
+ghost use Rattle.hierarchy.specs.Hierarchy.{edgesOf};
 ghost use Rattle.blocks.specs.Record.{partyIn, modeIn, namesIn};
 ghost use Rattle.locks.specs.Locks.{modeNumbered};
 ghost use Rattle.locks.specs.Lent.{lent};
-ghost use Rattle.parties.specs.Parties.{stageIn};
-ghost use Rattle.reach_sets.specs.Sets.{setAt, callSet};
+ghost use Rattle.reach_sets.specs.Sets.{callSet};
 ghost use Rattle.replay.specs.Replay.{recordList, isRecord, stepRecords, startOf};
 ghost use Rattle.needless.specs.Waits.{noWaits, nothingNamed, plus, waitsOfSteps, waitsOf};
 ghost use Rattle.needless.specs.Inner.{here, modeOf, setInWay, someInWay, visits, waited, waitsIf, calledAfter, Counts, Sets, Countable};

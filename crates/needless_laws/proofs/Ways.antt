@@ -1,22 +1,20 @@
 -- In a tree, among visits that name one node each, a call is free just where nobody stands in its way. Assumes nothing.
 use mathlib.Core.Path.{_≡_, refl, sym, ap, _∙_}
 use mathlib.Core.List.{List}
-use mathlib.Core.Bool.{true, not, _&&_, _||_, or-false, and-comm}
+use mathlib.Core.Bool.{not, _&&_, _||_, or-false, and-comm}
 use Prim.Native.Nat.{ℕ, _<_, max}
 use native.Mathlib.Omega.{arith}
-use lib.Dec.{eqb, leb}
-use lib.ListN.{getD}
-use borrow.Author.Tests.{eqb-false, ne-eqb, leb-true, le-leb, not-true}
-use Rattle.lists.specs.Lists.{anyBelow}
+use lib.Dec.{leb}
+use borrow.Author.Tests.{leb-true, le-leb}
 use Rattle.lists.proofs.Bools.{both-ways, and-left, and-right, and-both}
 use Rattle.lists.proofs.Bounded.{any-stop, same-any}
 use Rattle.lists.proofs.Distinct.{any-some}
-use Rattle.hierarchy.specs.Hierarchy.{edgesOf, Reach, reach, flagged}
+use Rattle.hierarchy.specs.Hierarchy.{edgesOf, reach, flagged}
 use Rattle.hierarchy.proofs.Legals.{promised}
 use Rattle.hierarchy.proofs.Reaches.{reach-within}
 use Rattle.intervals.specs.Intervals.{lowOf, highOf, intervalTable}
 use Rattle.intervals.specs.Cover.{lowAt, highAt}
-use Rattle.interval_laws.proofs.Laws.{Shared, built-low, built-high, interval-real, reach-agrees}
+use Rattle.interval_laws.proofs.Laws.{Shared, built-low, built-high, interval-real}
 use Rattle.locks.specs.declared.Lock.{Lock}
 use Rattle.locks.specs.declared.Stage.{Stage}
 use Rattle.locks.specs.declared.Stage.the-variants.{Out, Waiting, Holding}

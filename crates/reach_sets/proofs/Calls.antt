@@ -1,22 +1,22 @@
 -- The set of a call: the sets of its names, joined one after the other, have what one of the names reaches. Assumes nothing.
 use mathlib.Core.Path.{_≡_, refl, sym, ap, _∙_}
 use mathlib.Core.List.{List, [], _∷_, append-nil}
-use mathlib.Core.Bool.{Bool, true, false, not, _||_, or-false, or-assoc}
-use Prim.Native.Nat.{ℕ, zero, suc, _+_, _*_, _≤_, _<_}
+use mathlib.Core.Bool.{Bool, true, false, _||_, or-false, or-assoc}
+use Prim.Native.Nat.{ℕ, _+_, _*_, _≤_, _<_}
 use native.Mathlib.Omega.{arith}
 use lib.Dec.{eqb, ltb}
-use lib.ListN.{length, getD, set, drop, replicate, drop-of-length-le, List·getD-eq-default, length-replicate}
+use lib.ListN.{length, getD, drop, replicate, drop-of-length-le, List·getD-eq-default, length-replicate}
 use lib.Seq.{set-out}
 use borrow.Author.Tests.{ltb-true, ltb-false, eqb-false, not-true}
 use Rattle.lists.specs.Lists.{any}
-use Rattle.lists.proofs.Bools.{bool, not-both}
+use Rattle.lists.proofs.Bools.{bool}
 use Rattle.lists.proofs.Loops.{drop-step}
 use Rattle.lists.proofs.Marks.{zero-at}
 use Rattle.hierarchy.specs.Hierarchy.{flagged, spreads, reach, inReach}
 use Rattle.hierarchy.specs.Inner.{On}
-use Rattle.hierarchy.proofs.Reaches.{spreads-only, reach-long}
+use Rattle.hierarchy.proofs.Reaches.{spreads-only}
 use Rattle.reach_sets.specs.declared.NodeSet.{NodeSet}
-use Rattle.reach_sets.specs.Sets.{has, noNodes, joined, setAt, joinedWith, callSet, setOf, setTable}
+use Rattle.reach_sets.specs.Sets.{has, noNodes, joined, setAt, joinedWith, callSet, setTable}
 use Rattle.reach_sets.proofs.Nodes.{has-none, has-joined}
 use Rattle.reach_sets.proofs.Fills.{has-flagged, table-set, table-long}
 

@@ -1,19 +1,19 @@
 -- Where the passes have ended, the table has the reach of each node, as the definition has it. Assumes nothing.
 use mathlib.Core.Path.{_≡_, refl, sym, ap, _∙_, subst}
-use mathlib.Core.List.{List, [], _∷_, _++_}
+use mathlib.Core.List.{List, _++_}
 use mathlib.Core.Bool.{Bool, true, false, not}
-use Prim.Native.Nat.{ℕ, zero, suc, _+_, _*_, _/_, _%_, _^_, _≤_, _<_}
+use Prim.Native.Nat.{ℕ, zero, suc, _+_, _*_, _/_, _%_, _^_, _<_}
 use native.Mathlib.Omega.{arith}
 use lib.Dec.{eqb}
 use lib.ListN.{length, getD, take, drop, length-take, drop-of-length-le}
 use lib.Seq.{drop-cons, getD-take, getD-drop}
-use borrow.Author.Tests.{eqb-true, eqb-false, ne-eqb, not-true}
+use borrow.Author.Tests.{eqb-false, ne-eqb, not-true}
 use Rattle.lists.specs.Lists.{one, Below}
 use Rattle.lists.proofs.Bools.{bool, not-both}
 use Rattle.hierarchy.specs.Hierarchy.{Edge, Reach, flagged, reach}
 use Rattle.hierarchy.specs.Hierarchy.Reach.{self, step}
 use Rattle.hierarchy.specs.Inner.{On}
-use Rattle.hierarchy.proofs.Reaches.{reach-long, reach-all, reach-only, reach-within}
+use Rattle.hierarchy.proofs.Reaches.{reach-all, reach-only, reach-within}
 use Rattle.hierarchy.proofs.Legals.{Promise}
 use Rattle.reach_sets.specs.declared.NodeSet.{NodeSet}
 use Rattle.reach_sets.specs.Sets.{bit, wordAt, has, setAt, wordOf, setOf, setsFrom, setTable}
@@ -85,7 +85,8 @@ module _ (n : ℕ) (es : List ℕ) (promise : Promise n es) (t₀ t : List ℕ)
   -- so it has the definition's set
   pub set-is : (x : ℕ) → x < n → setAt t x ≡ setOf (reach n es x)
   set-is x h =
-      same-set (setAt t x) (setOf (reach n es x)) (refl, four (λ k. wordAt (setAt t x) k < 2 ^ 64) (small (4 * x)) (small (4 * x + 1)) (small (4 * x + 2)) (small (4 * x + 3))) (flags-words (reach n es x))
+      same-set (setAt t x) (setOf (reach n es x)) (refl, four (λ k. wordAt (setAt t x) k < 2 ^ 64) (small (4 * x)) (small (4 * x + 1)) (small (4 * x + 2)) (small (4 * x + 3)))
+      (flags-words (reach n es x))
       (λ y g.
       bool (has (setAt t x) y)
       (λ a. a ∙ sym (has-flagged (reach n es x) y g ∙ on-flagged x y (reach-all es n ends x y h (has-reach x y h g a))))

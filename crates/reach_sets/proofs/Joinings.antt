@@ -2,7 +2,7 @@
 use mathlib.Core.Path.{_≡_, refl, sym, ap, ap₂, _∙_, subst}
 use mathlib.Core.List.{List}
 use mathlib.Core.Bool.{Bool, true, false, _||_, or-true}
-use Prim.Native.Nat.{ℕ, suc, _+_, _-_, _*_, _/_, _^_, _≤_, _<_}
+use Prim.Native.Nat.{ℕ, _+_, _-_, _*_, _/_, _^_, _≤_, _<_}
 use native.Mathlib.Omega.{arith}
 use lib.Dec.{eqb}
 use lib.Bits.{or-lt}
@@ -12,7 +12,7 @@ use borrow.Author.Tests.{eqb-true, eqb-false}
 use Rattle.lists.specs.Lists.{Below, Went}
 use Rattle.lists.proofs.Bools.{bool, not-both, or-left, or-right, or-either}
 use Rattle.lists.proofs.Passes.{went-both}
-use Rattle.hierarchy.specs.Hierarchy.{edgesOf, Edge, Reach}
+use Rattle.hierarchy.specs.Hierarchy.{edgesOf, Edge}
 use Rattle.hierarchy.specs.Hierarchy.Reach.{self, step}
 use Rattle.hierarchy.specs.Inner.{endsAt, Edges}
 use Rattle.hierarchy.specs.declared.Ends.{Ends}

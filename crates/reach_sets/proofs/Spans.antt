@@ -2,7 +2,7 @@
 use mathlib.Core.Path.{_≡_, refl, sym, ap, _∙_}
 use mathlib.Core.List.{List, [], _∷_}
 use mathlib.Core.Bool.{Bool, true, false, not, cond, _&&_}
-use Prim.Native.Nat.{ℕ, zero, suc, _+_, _-_, _*_, _≤_, _<_, min, max}
+use Prim.Native.Nat.{ℕ, suc, _+_, _-_, _*_, _≤_, _<_, min, max}
 use native.Mathlib.Omega.{arith}
 use lib.Dec.{eqb}
 use lib.ListN.{length, getD, set, drop, length-set, drop-of-length-le}
@@ -13,11 +13,10 @@ use Rattle.lists.proofs.Loops.{drop-step}
 use Rattle.hierarchy.specs.Hierarchy.{flagged, reach}
 use Rattle.hierarchy.proofs.Reaches.{reach-long}
 use Rattle.intervals.specs.declared.Interval.{Interval}
-use Rattle.intervals.specs.Numbering.{numbering}
 use Rattle.intervals.specs.Intervals.{numbersAmong, lowOf, highOf, intervalsFrom, intervalTable}
 use Rattle.intervals.proofs.Doubles.{two-set}
 use Rattle.reach_sets.specs.declared.NodeSet.{NodeSet}
-use Rattle.reach_sets.specs.Sets.{has, setAt, setOf}
+use Rattle.reach_sets.specs.Sets.{has, setAt}
 use Rattle.reach_sets.specs.Inner.{countedIf, lessOf, Spannable}
 use Rattle.reach_sets.proofs.Fills.{has-flagged}
 

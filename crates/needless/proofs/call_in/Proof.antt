@@ -1,7 +1,5 @@
 -- `call_in` meets its contract: the names stand from byte 4 on. Assumes nothing.
-use mathlib.Core.Path.{_≡_, refl, sym, ap, _∙_}
-use mathlib.Core.List.{List}
-use Prim.Native.Nat.{ℕ}
+use mathlib.Core.Path.{sym, ap, _∙_}
 use native.Mathlib.Omega.{arith}
 use Rattle.reach_sets.specs.Sets.{callSet}
 use Rattle.needless.proofs.Names.{names-none, names-within, names-are}

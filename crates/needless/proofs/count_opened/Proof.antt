@@ -1,5 +1,5 @@
 -- `count_opened` meets its contract: the parts of the places that are the file's are within them. Assumes nothing.
-use mathlib.Core.Path.{_≡_, sym}
+use mathlib.Core.Path.{sym}
 use lib.Seq.{length-take-le}
 use borrow.Author.Needs.{needs}
 use Rattle.needless.proofs.count_opened.Statement.{statement}

@@ -1,14 +1,12 @@
 -- `count_steps` meets its contract: the waits so far and those of the records left come to the same, from the fresh desk to the end. Assumes nothing.
 use mathlib.Core.Path.{_≡_, sym, ap, ap₂, _∙_}
-use mathlib.Core.Bool.{true}
 use mathlib.Core.List.{List, []}
-use Prim.Native.Nat.{ℕ, _+_, _-_, _*_, _/_, _<_}
+use Prim.Native.Nat.{ℕ, _+_, _-_, _*_, _<_}
 use native.Mathlib.Omega.{arith}
 use lib.ListN.{length, getD, take, drop}
-use Rattle.locks.specs.Lent.{Hierarchy, lent}
+use Rattle.locks.specs.Lent.{lent}
 use Rattle.desk.specs.declared.Desk.{Desk}
 use Rattle.replay.specs.Replay.{recordList, isRecord}
-use Rattle.replay.specs.Inner.{recordAt}
 use Rattle.replay.proofs.Records.{records-length, records-at}
 use Rattle.needless.specs.declared.Waits.{Waits}
 use Rattle.needless.proofs.Tallies.{record-at, Counting, counting-start, counting-few, counting-more, counting-end}

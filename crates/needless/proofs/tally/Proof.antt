@@ -31,7 +31,8 @@ returns-2 c = let w = c .before .before in let i = w .before .before in let m = 
     (c .more-if .ensures ∙ ap (λ (x : Bool). a .before .needless + one (not x))
     (w .some-in-way .ensures
     ∙ ap (λ (x : NodeSet). someInWay (a .desk .entries) (a .called .now) (m .mode-when .result) x) (i .call-in .ensures)
-    ∙ ap (λ (x : Mode). someInWay (a .desk .entries) (a .called .now) x (callSet (a .sets .now) (namesIn (a .bytes .now)))) (m .mode-when .ensures ∙ ap (λ (k : ℕ). modeNumbered k) (b .byte .ensures))))
+    ∙ ap (λ (x : Mode). someInWay (a .desk .entries) (a .called .now) x (callSet (a .sets .now) (namesIn (a .bytes .now))))
+    (m .mode-when .ensures ∙ ap (λ (k : ℕ). modeNumbered k) (b .byte .ensures))))
 
 pub tally-spec : {M : Type 1} → statement M
 tally-spec =

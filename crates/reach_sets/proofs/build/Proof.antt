@@ -1,5 +1,4 @@
 -- `build` meets its contract: what each of its ends leaves is what the definition says, for the answer, the places and the words. Assumes nothing.
-use mathlib.Core.Path.{_≡_, _∙_}
 use native.Mathlib.Omega.{arith}
 use Rattle.intervals.specs.Build.{buildMeaning}
 use Rattle.reach_sets.proofs.Plains.{short-places, short-edges, short-words, long-enough, plain-short, plain-done}

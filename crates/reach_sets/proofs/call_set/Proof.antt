@@ -1,9 +1,8 @@
 -- `call_set` meets its contract: the names' sets are joined one after the other. Assumes nothing.
-use mathlib.Core.Path.{_≡_, refl, sym, ap, _∙_}
-use Prim.Native.Nat.{ℕ, _-_}
+use mathlib.Core.Path.{_≡_, refl, _∙_}
+use Prim.Native.Nat.{_-_}
 use native.Mathlib.Omega.{arith}
 use lib.ListN.{length, drop}
-use Rattle.reach_sets.specs.declared.NodeSet.{NodeSet}
 use Rattle.reach_sets.specs.Sets.{noNodes, joinedWith}
 use Rattle.reach_sets.proofs.Calls.{joining-name, joining-last}
 use borrow.Author.Needs.{needs}

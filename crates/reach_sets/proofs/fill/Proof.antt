@@ -1,6 +1,6 @@
 -- `fill` meets its contract: sets that begin with each node's own, and have all that an edge leads to, are the reaches. Assumes nothing.
 use mathlib.Core.Path.{_≡_, _∙_}
-use Prim.Native.Nat.{ℕ, _/_}
+use Prim.Native.Nat.{_/_}
 use native.Mathlib.Omega.{arith}
 use lib.ListN.{length}
 use Rattle.hierarchy.specs.Hierarchy.{edgesOf}

@@ -1,6 +1,5 @@
 -- `has` meets its contract: a shift and a mask test a bit. Assumes nothing.
 use mathlib.Core.Path.{_≡_, sym}
-use native.Mathlib.Omega.{arith}
 use lib.ListN.{length}
 use Rattle.reach_sets.proofs.Bits.{and-one}
 use Rattle.reach_sets.proofs.Nodes.{has-past}

@@ -1,5 +1,4 @@
 -- `join_once` meets its contract: each edge keeps what a pass keeps, and where no set grew, none has anything left to do. Assumes nothing.
-use native.Mathlib.Omega.{arith}
 use Rattle.reach_sets.proofs.Joinings.{Joining, joining-start, in-table, joining-more, joining-end}
 use borrow.Author.Needs.{needs}
 use Rattle.reach_sets.proofs.join_once.Statement.{statement}

@@ -1,5 +1,5 @@
 -- `less_of` meets its contract, by whether there are both numbers. Assumes nothing.
-use mathlib.Core.Path.{refl, sym}
+use mathlib.Core.Path.{refl}
 use native.Mathlib.Omega.{arith}
 use borrow.Author.Tests.{eq-eqb, ne-eqb}
 use Rattle.reach_sets.proofs.less_of.Statement.{statement}

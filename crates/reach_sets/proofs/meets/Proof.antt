@@ -1,5 +1,4 @@
 -- `meets` meets its contract: it is enough to look at the four words. Assumes nothing.
-use mathlib.Core.Path.{sym, _∙_}
 use Prim.Native.Nat.{_<_}
 use lib.Bits.{bitAnd}
 use lib.ListN.{getD}

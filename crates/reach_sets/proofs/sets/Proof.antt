@@ -1,7 +1,7 @@
 -- `sets` meets its contract: what each of its ends leaves is what the definition says. Assumes nothing.
 use mathlib.Core.Path.{_≡_, sym, _∙_}
 use mathlib.Core.List.{List}
-use Prim.Native.Nat.{ℕ, _*_, _≤_}
+use Prim.Native.Nat.{ℕ, _*_}
 use native.Mathlib.Omega.{arith}
 use lib.ListN.{length, take}
 use lib.Seq.{length-take-le}
@@ -59,7 +59,8 @@ fill-requires c κs = let r = c .before in record { legal = legal r; whole = ome
 returns-4 : tie.Need-returns-4
 returns-4 c = let f = c .before .before in let r = f .before .before in
     sets-done (n r) (edges r) (count r) (words r) (many-enough (n r) (edges r) (count r) (words r) (start r .before .before .if1 .left) (start r .before .if2 .left)) (legal r) _
-    (laid (4 * n r) (setTable (n r) (edgesOf (edges r) (count r))) (f .fill .last .1 .1 .1 .0) (words r) (f .fill .ensures) (omega (arith, start r .before .before .if1 .left)) (f .fill .kept .1 .1 .1 .0))
+    (laid (4 * n r) (setTable (n r) (edgesOf (edges r) (count r))) (f .fill .last .1 .1 .1 .0) (words r) (f .fill .ensures)
+    (omega (arith, start r .before .before .if1 .left)) (f .fill .kept .1 .1 .1 .0))
 
 pub sets-spec : {M : Type 1} → statement M
 sets-spec =

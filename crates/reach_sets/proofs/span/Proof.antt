@@ -1,8 +1,6 @@
 -- `span` meets its contract: the numbers of the set's nodes are taken in one by one. Assumes nothing.
 use mathlib.Core.List.{List}
-use mathlib.Core.Path.{_≡_, _∙_}
 use Prim.Native.Nat.{ℕ, _-_}
-use native.Mathlib.Omega.{arith}
 use lib.ListN.{length}
 use Rattle.reach_sets.proofs.Spans.{Flags, Spanning, spanning-start, spanning-more, spanning-end}
 use borrow.Author.Needs.{needs}
@@ -24,7 +22,8 @@ loop-again c flags f = let q = c .before .before in let t = q .before .before in
     (spanning-more _ _ flags f _ _ _ (l .loop .inv flags f) (t .before .loop-test .taken) (t .has .result) (t .has .ensures))
 
 returns : tie.Need-returns Inv-loop μ-loop
-returns c flags l f = spanning-end (c .before .before .before .args .set) _ flags (record { long = l; each = f }) _ _ _ (c .before .loop .inv flags (record { long = l; each = f })) (c .loop-test .left)
+returns c flags l f =
+    spanning-end (c .before .before .before .args .set) _ flags (record { long = l; each = f }) _ _ _ (c .before .loop .inv flags (record { long = l; each = f })) (c .loop-test .left)
 
 pub span-spec : {M : Type 1} → statement M
 span-spec =

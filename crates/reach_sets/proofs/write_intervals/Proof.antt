@@ -7,11 +7,10 @@ use lib.ListN.{length, take, drop}
 use lib.Seq.{length-take-le}
 use Rattle.hierarchy.specs.Hierarchy.{edgesOf}
 use Rattle.hierarchy.proofs.Legals.{Promise, promised}
-use Rattle.intervals.specs.Numbering.{numbering}
 use Rattle.intervals.specs.Intervals.{intervalTable}
 use Rattle.intervals.proofs.Builds.{behind, laid}
 use Rattle.intervals.proofs.Extremes.{numbering-long}
-use Rattle.reach_sets.specs.Sets.{setAt, setOf}
+use Rattle.reach_sets.specs.Sets.{setAt}
 use Rattle.reach_sets.proofs.Fills.{table-set}
 use borrow.Author.Needs.{needs}
 use Rattle.reach_sets.proofs.write_intervals.Statement.{statement}

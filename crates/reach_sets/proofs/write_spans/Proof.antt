@@ -19,22 +19,22 @@ loop-holds : tie.Need-loop-holds Inv-loop μ-loop
 loop-holds c = writing-start _ _ _ (c .before .before .before .pre)
 
 mul-places : tie.Need-mul-places Inv-loop μ-loop
-mul-places c = omega (arith, c .before .before .before .loop .inv .so-far, c .before .before .before .before .before .before .before .pre, c .before .before .before .before .before .before .before .good)
+mul-places c = let l = c .before .before .before in omega (arith, l .loop .inv .so-far, l .before .before .before .before .pre, l .before .before .before .before .good)
 
 add-places : tie.Need-add-places Inv-loop μ-loop
-add-places c = omega (arith, c .before .before .before .loop .inv .so-far, c .before .before .before .before .before .before .before .pre, c .before .before .before .before .before .before .before .good)
+add-places c = let l = c .before .before .before in omega (arith, l .loop .inv .so-far, l .before .before .before .before .pre, l .before .before .before .before .good)
 
 mul-places-2 : tie.Need-mul-places-2 Inv-loop μ-loop
-mul-places-2 c = omega (arith, c .before .before .before .loop .inv .so-far, c .before .before .before .before .before .before .before .pre, c .before .before .before .before .before .before .before .good)
+mul-places-2 c = let l = c .before .before .before in omega (arith, l .loop .inv .so-far, l .before .before .before .before .pre, l .before .before .before .before .good)
 
 slice-write-places : tie.Need-slice-write-places Inv-loop μ-loop
 slice-write-places c = omega (arith, c .before .before .before .loop .inv, c .before .before .before .before .before .before .before .pre)
 
 mul-places-3 : tie.Need-mul-places-3 Inv-loop μ-loop
-mul-places-3 c = omega (arith, c .before .before .before .loop .inv .so-far, c .before .before .before .before .before .before .before .pre, c .before .before .before .before .before .before .before .good)
+mul-places-3 c = let l = c .before .before .before in omega (arith, l .loop .inv .so-far, l .before .before .before .before .pre, l .before .before .before .before .good)
 
 mul-places-4 : tie.Need-mul-places-4 Inv-loop μ-loop
-mul-places-4 c = omega (arith, c .before .before .before .loop .inv .so-far, c .before .before .before .before .before .before .before .pre, c .before .before .before .before .before .before .before .good)
+mul-places-4 c = let l = c .before .before .before in omega (arith, l .loop .inv .so-far, l .before .before .before .before .pre, l .before .before .before .before .good)
 
 slice-write-places-2 : tie.Need-slice-write-places-2 Inv-loop μ-loop
 slice-write-places-2 c = simp length-set (omega (arith, c .before .before .before .loop .inv, c .before .before .before .before .before .before .before .pre))

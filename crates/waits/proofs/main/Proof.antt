@@ -2,7 +2,7 @@
 use mathlib.Core.Path.{sym}
 use Prim.Native.Nat.{_≤_}
 use native.Mathlib.Omega.{arith}
-use lib.ListN.{length, take, replicate}
+use lib.ListN.{length, replicate}
 use lib.Seq.{length-take-le}
 use Rattle.texts.specs.Lines.{reportLine}
 use Rattle.texts.proofs.Puts.{puts-within}
