@@ -15,7 +15,7 @@ use Rattle.replay.specs.Replay.{recordList, sizeOf, edgeTable, edgeCountOf, ste
 use Rattle.opening.specs.Opening.{fileRows}
 use Rattle.opening.proofs.Opens.{Ready}
 use Rattle.needless.specs.declared.Waits.{Waits}
-use Rattle.needless.specs.Waits.{noWaits, nothingNamed, waitsOfSteps, recordsUnless, waitsOfRecords, fileUnless, waitsOf}
+use Rattle.needless.specs.Waits.{noWaits, nothingNamed, waitsOfSteps, recordsUnless, waitsOfRecords, waitsUnless, waitsOf}
 
 -- REFUSED, as a file or as a hierarchy
 pub refused-waits : (file : List ℕ) (k : ℕ) → runFile file ≡ refused k → waitsOf file ≡ noWaits
@@ -26,7 +26,7 @@ refused-waits file k e = by (refusal (fileChecks file)) e
     built (some j) q = refl
     built none q = not-both true refl cc
 
-    by : (o : Option ℕ) → runFileUnless o file ≡ refused k → fileUnless o file ≡ noWaits
+    by : (o : Option ℕ) → runFileUnless o file ≡ refused k → waitsUnless o file ≡ noWaits
     by (some j) q = refl
     by none q = built (refusal (hierarchyChecks (sizeOf (fileRows file)) (edgeTable (fileRows file)) (edgeCountOf (fileRows file)))) q
 
@@ -39,7 +39,7 @@ opened-waits file n count total records edges places r =
     ∙ ap (λ (m : ℕ). over (builtOf (fileRows file)) m (take (16 * total) records)) (r .size)
     ∙ ap (over (builtOf (fileRows file)) (sizeOf (fileRows file))) (r .read)
     ∙ ap (λ (o : Option ℕ). recordsUnless o (fileRows file)) (sym (r .built-fine))
-    ∙ ap (λ (o : Option ℕ). fileUnless o file) (sym (r .file-fine))
+    ∙ ap (λ (o : Option ℕ). waitsUnless o file) (sym (r .file-fine))
   where
     over : Hierarchy → ℕ → List ℕ → Waits
     over H m bytes = waitsOfSteps (startOf H m) nothingNamed (stepRecords (recordList bytes))

@@ -1,6 +1,6 @@
 -- Terms of the contracts of private functions only: no definition of the paper is here. Assumes nothing.
 use mathlib.Core.Path.{_≡_}
-use mathlib.Core.List.{List, _∷_}
+use mathlib.Core.List.{List, [], _∷_}
 use mathlib.Core.Bool.{Bool, true, false, not, cond, _&&_}
 use Prim.Native.Nat.{ℕ, _*_, _≤_, _<_}
 use lib.ListN.{length}
@@ -17,11 +17,11 @@ use Rattle.parties.specs.Parties.{stageIn}
 use Rattle.reach_sets.specs.declared.NodeSet.{NodeSet}
 use Rattle.reach_sets.specs.Sets.{meets, setAt, setTo, callSet, setTable}
 use Rattle.replay.specs.declared.Outcome.{Outcome}
-use Rattle.replay.specs.declared.Outcome.the-variants.{Granted, Waits as Queued, Value, Stored, Left, Refused}
+use Rattle.replay.specs.Answers.{stepMeaning}
 use Rattle.replay.specs.Replay.{recordList, isRecord, stepRecords, stateOf}
 use Rattle.needless.specs.declared.Waits.{Waits}
 use Rattle.needless.specs.declared.Progress.{Progress}
-use Rattle.needless.specs.Waits.{noWaits, oneWait, plus, namesOf, waitsOfSteps}
+use Rattle.needless.specs.Waits.{noWaits, oneWait, plus, isWaits, makesVisit, namesOf, waitsOfSteps}
 
 -- the party holds or waits
 abbrev pub here : Stage → Bool
@@ -43,23 +43,13 @@ setInWay stage theirs mode s = here stage && not (bothReading (modeOf stage) mod
 abbrev pub someInWay : List Entry → List ℕ → Mode → NodeSet → Bool
 someInWay entries called mode s = anyBelow 32 (λ party. setInWay (stageIn entries party) (setAt called party) mode s)
 
--- an answer makes a visit
+-- an answer makes a visit; the parties of a leave play no part in it
 abbrev pub visits : Outcome → Bool
-visits (Granted cover) = true
-visits Queued = true
-visits (Value number) = false
-visits Stored = false
-visits (Left grants) = false
-visits (Refused k) = false
+visits outcome = makesVisit (stepMeaning outcome [])
 
 -- an answer is waits
 abbrev pub waited : Outcome → Bool
-waited (Granted cover) = false
-waited Queued = true
-waited (Value number) = false
-waited Stored = false
-waited (Left grants) = false
-waited (Refused k) = false
+waited outcome = isWaits (stepMeaning outcome [])
 
 -- a wait where the test holds
 abbrev pub waitsIf : Bool → (needless : Bool) → Waits

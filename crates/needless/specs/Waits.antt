@@ -1,6 +1,6 @@
 -- The report over a file (02, point 2): all waits, and the needless ones. Assumes nothing.
 use mathlib.Core.List.{List, [], _∷_}
-use mathlib.Core.Bool.{Bool, false, not, _&&_}
+use mathlib.Core.Bool.{Bool, true, false, not, cond, _&&_}
 use mathlib.Core.Option.{Option, none, some}
 use Prim.Native.Nat.{ℕ, _+_}
 use lib.ListN.{getD, set, replicate}
@@ -41,15 +41,28 @@ nothingNamed = replicate 32 []
 abbrev pub namesOf : List (List ℕ) → ℕ → List ℕ
 namesOf named party = getD named party []
 
--- after a step: an enter answered granted or waits has named the nodes of its record; no other step, and none that is refused, names any. What a party
--- that has left had named stays here unused
+-- the answer is waits: only an enter's is
+abbrev pub isWaits : StepAnswer → Bool
+isWaits (granted cover) = false
+isWaits waits = true
+isWaits (value number) = false
+isWaits stored = false
+isWaits (left parties) = false
+isWaits (refused number) = false
+
+-- the answer makes a visit: an enter's that is granted or waits
+abbrev pub makesVisit : StepAnswer → Bool
+makesVisit (granted cover) = true
+makesVisit waits = true
+makesVisit (value number) = false
+makesVisit stored = false
+makesVisit (left parties) = false
+makesVisit (refused number) = false
+
+-- after a step: an enter that makes a visit has named the nodes of its record; no other step, and none that is refused, names any. What a party that has left
+-- had named stays here unused
 abbrev pub namedAfter : List ℕ → StepAnswer → List (List ℕ) → List (List ℕ)
-namedAfter r (granted cover) named = set named (partyIn r) (namesIn r)
-namedAfter r waits named = set named (partyIn r) (namesIn r)
-namedAfter r (value number) named = named
-namedAfter r stored named = named
-namedAfter r (left parties) named = named
-namedAfter r (refused number) named = named
+namedAfter r answer named = cond (makesVisit answer) (set named (partyIn r) (namesIn r)) named
 
 -- NEEDLESS. The reach of the named nodes meets that of others: some node is in both (`meet-reach` in needless_laws: a way leads to it from one of the names
 -- and from one of the others)
@@ -71,14 +84,9 @@ abbrev pub isNeedless : Hierarchy → Desk → List (List ℕ) → Mode → List
 isNeedless H d named mode names =
     not (anyBelow 32 (λ party. inWay (H .n) (edgesOf (H .edges) (H .edgeCount)) mode names (stageAt d party) (namesOf named party)))
 
--- THE REPORT. Of a step, by its answer: only an enter is answered waits, and a step that is refused counts as no wait
+-- THE REPORT. Of a step, by its answer: one that is refused counts as no wait
 abbrev pub waitsBy : StepAnswer → (needless : Bool) → Waits
-waitsBy (granted cover) needless = noWaits
-waitsBy waits needless = oneWait needless
-waitsBy (value number) needless = noWaits
-waitsBy stored needless = noWaits
-waitsBy (left parties) needless = noWaits
-waitsBy (refused number) needless = noWaits
+waitsBy answer needless = cond (isWaits answer) (oneWait needless) noWaits
 
 -- a wait is judged at its enter, on the hierarchy and the desk and by the names before that step
 abbrev pub waitsOfStep : State → List (List ℕ) → List ℕ → StepAnswer → Waits
@@ -101,10 +109,10 @@ unfoldable pub waitsOfRecords : List (List ℕ) → Waits
 waitsOfRecords rs = recordsUnless (refusal (hierarchyChecks (sizeOf rs) (edgeTable rs) (edgeCountOf rs))) rs
 
 -- a file that is refused counts as no wait
-abbrev pub fileUnless : Option ℕ → List ℕ → Waits
-fileUnless (some k) file = noWaits
-fileUnless none file = waitsOfRecords (recordList (fileRecords file))
+abbrev pub waitsUnless : Option ℕ → List ℕ → Waits
+waitsUnless (some k) file = noWaits
+waitsUnless none file = waitsOfRecords (recordList (fileRecords file))
 
 -- the report over a file
 unfoldable pub waitsOf : List ℕ → Waits
-waitsOf file = fileUnless (refusal (fileChecks file)) file
+waitsOf file = waitsUnless (refusal (fileChecks file)) file

@@ -17,17 +17,8 @@ use Rattle.runs.specs.Run.{State, alsoRan, run}
 use Rattle.replay.specs.Replay.{StepAnswer, granted, waits, value, stored, left, refused, performed, performStep, performAll, answersOf, FileRun}
 use Rattle.replay.specs.Replay.{recordList, sizeOf, edgeTable, edgeCountOf, stepRecords, builtOf, startOf, runUnless, runRecords, fileUnless as runFileUnless, runFile}
 use Rattle.needless.specs.declared.Waits.{Waits}
-use Rattle.needless.specs.Waits.{noWaits, nothingNamed, namedAfter, isNeedless, waitsBy, waitsOfSteps, recordsUnless, waitsOfRecords, fileUnless, waitsOf}
+use Rattle.needless.specs.Waits.{noWaits, nothingNamed, isWaits, namedAfter, isNeedless, waitsBy, waitsOfSteps, recordsUnless, waitsOfRecords, waitsUnless, waitsOf}
 use Rattle.needless_laws.specs.Visits.{oneNode, visitsOne, visitsNameOne, OneEach}
-
--- the answer is waits
-abbrev pub isWaits : StepAnswer → Bool
-isWaits (granted cover) = false
-isWaits waits = true
-isWaits (value number) = false
-isWaits stored = false
-isWaits (left parties) = false
-isWaits (refused number) = false
 
 -- OF ONE STEP
 answer-all : (a : StepAnswer) (b : Bool) → (waitsBy a b) .all ≡ one (isWaits a)
@@ -101,7 +92,7 @@ file-told : (file : List ℕ) → Told (runFile file) (waitsOf file)
 unfolding runFile waitsOf
 file-told file = by (refusal (fileChecks file))
   where
-    by : (x : Option ℕ) → Told (runFileUnless x file) (fileUnless x file)
+    by : (x : Option ℕ) → Told (runFileUnless x file) (waitsUnless x file)
     by (some k) = refl
     by none = records-told (recordList (fileRecords file))
 

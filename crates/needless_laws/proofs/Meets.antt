@@ -1,14 +1,14 @@
 -- The reaches of named nodes meet just where those of two of them do. Assumes nothing.
-use mathlib.Core.Path.{_≡_, refl, ap, _∙_}
+use mathlib.Core.Path.{_≡_, refl, sym, ap, _∙_}
 use mathlib.Core.List.{List, [], _∷_}
 use mathlib.Core.Bool.{Bool, true, false, not, _&&_}
 use Prim.Native.Nat.{ℕ, _<_}
 use native.Mathlib.Omega.{arith}
-use lib.Dec.{eqb}
+use lib.Dec.{eqb, ltb}
 use lib.ListN.{getD}
-use borrow.Author.Tests.{eqb-false, ne-eqb, not-true}
+use borrow.Author.Tests.{eqb-false, ne-eqb, ltb-true, ltb-false, not-true}
 use Rattle.lists.specs.Lists.{any}
-use Rattle.lists.proofs.Bools.{not-both, both-ways, and-left, and-right, and-both, or-either}
+use Rattle.lists.proofs.Bools.{bool, not-both, both-ways, and-left, and-right, and-both, or-either}
 use Rattle.lists.proofs.Bounded.{any-stop}
 use Rattle.lists.proofs.Members.{In, head, tail}
 use Rattle.lists.proofs.Distinct.{any-some, any-in}
@@ -16,6 +16,9 @@ use Rattle.hierarchy.specs.Hierarchy.{edgesOf, Reach, flagged, reach, inReach, 
 use Rattle.hierarchy.proofs.Reaches.{reach-within}
 use Rattle.hierarchy.proofs.Legals.{promised}
 use Rattle.interval_laws.proofs.Laws.{reach-agrees}
+use Rattle.reach_sets.specs.Sets.{has, setAt, setTable}
+use Rattle.reach_sets.proofs.Nodes.{has-past}
+use Rattle.reach_sets.proofs.Calls.{reach-set}
 use Rattle.needless.specs.Waits.{reachesMeet}
 use Rattle.needless_laws.specs.Visits.{nodesMeet}
 
@@ -77,6 +80,17 @@ module _ (n : ℕ) (table : List ℕ) (edgeCount : ℕ) (legal : Legal n table e
   reached-flag a z h e =
       let some = eqb-false (getD (reach n ways a) z 0) 0 (not-true (eqb (getD (reach n ways a) z 0) 0) e) in
       reach-agrees n table edgeCount legal a z h .1 (omega (arith, some))
+
+  -- the plain engine's set of a node has just the nodes that it reaches
+  pub set-reach : (x y : ℕ) → x < n → (Reach ways x y → has (setAt (setTable n ways) x) y ≡ true) × (has (setAt (setTable n ways) x) y ≡ true → Reach ways x y)
+  set-reach x y h = (
+    λ w.
+        let l : y < n = reach-within n (λ p c e. promised n table edgeCount legal .edge p c e .child-below) w h in
+        reach-set n ways x y (omega (arith, l, promised n table edgeCount legal .few)) ∙ flag-reached x y h w,
+    λ t. bool (ltb y 256)
+        (λ e. reached-flag x y h (sym (reach-set n ways x y (ltb-true y 256 e)) ∙ t))
+        (λ e. not-both (has (setAt (setTable n ways) x) y) t (has-past (setAt (setTable n ways) x) y refl (ltb-false y 256 e))),
+  )
 
   -- THE REACH OF NAMED NODES MEETS THAT OF OTHERS just where a way leads from one of the names and a way from one of the others to one node
   pub meet-reach : (names others : List ℕ) → ((r : ℕ) → In r names → r < n) → ((r : ℕ) → In r others → r < n)

@@ -37,7 +37,7 @@ use Rattle.replay.specs.Replay.{recordList, sizeOf, edgeTable, edgeCountOf, ste
 use Rattle.replay.proofs.Records.{edge-table-length}
 use Rattle.replay.proofs.Outcomes.{call-3, call-4, call-5, call-6, performs-call}
 use Rattle.trees.specs.Tree.{oneParentEach}
-use Rattle.needless.specs.Waits.{nothingNamed, namedAfter, waitsOfStep, waitsOfSteps, recordsUnless, waitsOfRecords, fileUnless, waitsOf}
+use Rattle.needless.specs.Waits.{nothingNamed, namedAfter, waitsOfStep, waitsOfSteps, recordsUnless, waitsOfRecords, waitsUnless, waitsOf}
 use Rattle.needless_laws.specs.Visits.{oneNode, visitsOne, visitsNameOne, OneEach, namedAfterSteps}
 use Rattle.needless_laws.proofs.Names.{NamedBy, StageNamed, AllNamed, call-named, named-set, named-kept, sweep-named}
 use Rattle.needless_laws.proofs.Ways.{BuiltTree, needless-free}
@@ -232,6 +232,6 @@ pub file-needless : (file : List ℕ) → let rs = recordList (fileRecords file)
 unfolding waitsOf
 file-needless file each o = by (refusal (fileChecks file))
   where
-    by : (x : Option ℕ) → (fileUnless x file) .needless ≡ 0
+    by : (x : Option ℕ) → (waitsUnless x file) .needless ≡ 0
     by (some k) = refl
     by none = records-needless (recordList (fileRecords file)) each o

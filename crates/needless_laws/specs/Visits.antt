@@ -1,15 +1,15 @@
 -- Where the report's second number is 0 (02, point 2): each visit names one node. Assumes nothing.
 use mathlib.Core.Path.{_≡_}
 use mathlib.Core.List.{List, [], _∷_}
-use mathlib.Core.Bool.{Bool, true, _&&_}
+use mathlib.Core.Bool.{Bool, true, not, _&&_, _||_}
 use Prim.Native.Nat.{ℕ}
 use lib.Dec.{eqb}
 use Rattle.lists.specs.Lists.{anyBelow, every}
 use Rattle.hierarchy.specs.Hierarchy.{flagged, reach}
 use Rattle.blocks.specs.Record.{namesIn}
 use Rattle.runs.specs.Run.{State}
-use Rattle.replay.specs.Replay.{StepAnswer, granted, waits, value, stored, left, refused, performed, performStep, sizeOf, stepRecords, builtOf, startOf}
-use Rattle.needless.specs.Waits.{namedAfter}
+use Rattle.replay.specs.Replay.{StepAnswer, performed, performStep, sizeOf, stepRecords, builtOf, startOf}
+use Rattle.needless.specs.Waits.{makesVisit, namedAfter}
 
 -- ONE NODE. The names are one node; a name given twice counts once. Without a name, which enter refuses, nothing is asked
 abbrev pub oneNode : List ℕ → Bool
@@ -18,12 +18,7 @@ oneNode (name ∷ names) = every (λ other. eqb other name) names
 
 -- a step answered so makes no visit, or one that names one node: an enter makes one where it is granted or waits
 abbrev pub visitsOne : StepAnswer → List ℕ → Bool
-visitsOne (granted cover) names = oneNode names
-visitsOne waits names = oneNode names
-visitsOne (value number) names = true
-visitsOne stored names = true
-visitsOne (left parties) names = true
-visitsOne (refused number) names = true
+visitsOne answer names = not (makesVisit answer) || oneNode names
 
 -- each visit of the step records, one after the other, names one node: each enter that is not refused
 unfoldable pub visitsNameOne : State → List (List ℕ) → Bool

@@ -25,7 +25,7 @@ has s node = eqb (bit (wordAt s (node / 64)) (node % 64)) 1
 abbrev pub noNodes : NodeSet
 noNodes = record { words = replicate 4 0 }
 
--- the nodes of both sets: their words joined by or
+-- the nodes of either set: their words joined by or
 abbrev pub joined : NodeSet → NodeSet → NodeSet
 joined a b =
     record {
@@ -55,7 +55,7 @@ storedAt table node s =
 abbrev pub setTo : List ℕ → ℕ → NodeSet → List ℕ
 setTo table node s = cond (ltb node (length table / 4)) (storedAt table node s) table
 
--- a set and those of these nodes, one after the other
+-- a set joined with those of these nodes, one after the other
 unfoldable pub joinedWith : NodeSet → List ℕ → List ℕ → NodeSet
 joinedWith s table [] = s
 joinedWith s table (name ∷ names) = joinedWith (joined s (setAt table name)) table names

@@ -45,7 +45,7 @@ pub fn has(set: NodeSet, node: usize) -> bool
     false
 }
 
-// The nodes of both sets, by or.
+// The nodes of either set, by or.
 pub fn joined(a: NodeSet, b: NodeSet) -> NodeSet
     ensures { λ r. ⌜ r ≡ union a b ⌝ }
 {

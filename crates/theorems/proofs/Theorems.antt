@@ -1,7 +1,7 @@
 -- THE THEOREMS OF THE DESK, in full, in the order of the customer's demands. Each is proved by citing the one that a crate below proves: with a hypothesis
 -- more or a clause less there it would no longer fit. What the terms mean is in the definitions, crates/*/specs; what each function does is its contract, in
 -- crates/*/src, where demand 1 is carried: no public function has a `requires`, and each result is equated with a definition. Assumes nothing.
-use mathlib.Core.Path.{_≡_, refl, sym, ap, _∙_}
+use mathlib.Core.Path.{_≡_, refl, sym, ap}
 use mathlib.Core.Logic.{_⊎_}
 use mathlib.Core.List.{List, [], _∷_, _++_, map}
 use mathlib.Core.Bool.{true, false, cond}
@@ -43,7 +43,7 @@ use Rattle.examples.specs.Table.{T, shared, bytes16, fileT, fileShared, starred
 use Rattle.trees.specs.Tree.{parentCount}
 use Rattle.reach_sets.specs.Sets.{has, setAt, setTable}
 use Rattle.reach_sets.specs.Plain.{plainStep}
-use Rattle.needless.specs.Waits.{noWaits, reachesMeet, waitsOf}
+use Rattle.needless.specs.Waits.{noWaits, isWaits, reachesMeet, waitsOf}
 use Rattle.needless_laws.specs.Visits.{OneEach}
 use Rattle.lists.proofs.Members.{In}
 use Rattle.interval_laws.proofs.Laws as laws
@@ -67,10 +67,8 @@ use Rattle.lines.proofs.Fits as fits
 use Rattle.lines.proofs.Parts as parts
 use Rattle.trees.proofs.Trees as tree
 use Rattle.reach_sets.proofs.Plains as plain
-use Rattle.reach_sets.proofs.Calls as called
 use Rattle.needless.proofs.Files as reports
 use Rattle.needless_laws.proofs.Counts as counts
-use Rattle.needless_laws.proofs.Counts.{isWaits}
 use Rattle.needless_laws.proofs.Meets as meets
 use Rattle.needless_laws.proofs.Needless as none-needless
 use Rattle.examples.proofs.Starred as computed
@@ -443,12 +441,10 @@ plain-agrees : (n : ℕ) (edges : List ℕ) (edgeCount : ℕ) (places scratch wo
     × ((plainStep n edges edgeCount places words) .places ≡ (buildStep n edges edgeCount places scratch) .places)
 plain-agrees = plain.plain-agrees
 
--- of a legal hierarchy, a node is in the set of another just where that reaches it
-set-reach : (n : ℕ) (table : List ℕ) (edgeCount : ℕ) → Legal n table edgeCount → (x y : ℕ) → x < n → y < 256
+-- of a legal hierarchy, the set of a node has just the nodes that it reaches
+set-reach : (n : ℕ) (table : List ℕ) (edgeCount : ℕ) → Legal n table edgeCount → (x y : ℕ) → x < n
     → let es = edgesOf table edgeCount in (Reach es x y → has (setAt (setTable n es) x) y ≡ true) × (has (setAt (setTable n es) x) y ≡ true → Reach es x y)
-set-reach n table edgeCount legal x y h g =
-    let e = called.reach-set n (edgesOf table edgeCount) x y g in
-    (λ w. e ∙ meets.flag-reached n table edgeCount legal x y h w, λ t. meets.reached-flag n table edgeCount legal x y h (sym e ∙ t))
+set-reach = meets.set-reach
 
 -- THE REPORT. Its first number counts the enters of the file's run that were answered `waits`,
 waits-counted : (file : List ℕ) (r : FileRun) → runFile file ≡ done r → (waitsOf file) .all ≡ count isWaits (r .answers)
@@ -484,7 +480,7 @@ share-exactly n table edgeCount legal each x y hx hy =
       λ m. let s = t .1 m in (omega (arith, s .in-first, s .in-second), omega (arith, s .in-first, s .in-second)),
     )
 
--- and if each enter of a file that is not refused names one node (`OneEach`), however often, no wait of the file is needless
+-- and if each enter that is not refused names one node, however often (`OneEach`), no wait is needless, of any file
 file-needless : (file : List ℕ) → let rs = recordList (fileRecords file) in
     ((node : ℕ) → node < sizeOf rs → (node ≡ 0 → ⊥) → parentCount (edgesOf (edgeTable rs) (edgeCountOf rs)) node ≡ 1) → OneEach rs → (waitsOf file) .needless ≡ 0
 file-needless file each = let rs = recordList (fileRecords file) in none-needless.file-needless file (tree.each-one (sizeOf rs) (edgesOf (edgeTable rs) (edgeCountOf rs)) each)
