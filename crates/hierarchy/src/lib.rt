@@ -178,6 +178,17 @@ pub fn clear(bytes: &mut [u8])
     }
 }
 
+// Sets each word to 0.
+pub fn clear_words(words: &mut [u64])
+    ensures { λ _. ⌜ now (words .exit) ≡ replicate (length (now (words .entry))) 0 ⌝ }
+{
+    let mut i = 0;
+    while i < words.len() {
+        words[i] = 0;
+        i += 1;
+    }
+}
+
 // Whether some byte is 0.
 fn some_zero(bytes: &[u8]) -> bool
     ensures { λ r. ⌜ r ≡ any (eqb 0) (now (bytes .entry)) ⌝ }

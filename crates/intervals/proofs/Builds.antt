@@ -1,15 +1,15 @@
 -- Building: what it leaves after each of its ends. Assumes nothing.
 use mathlib.Core.Path.{_≡_, refl, sym, ap, _∙_}
-use mathlib.Core.List.{List, [], _∷_, _++_}
-use mathlib.Core.Bool.{true, false}
+use mathlib.Core.List.{List, [], _∷_, _++_, append-nil}
+use mathlib.Core.Bool.{Bool, true, false}
 use mathlib.Core.Option.{Option, none, some}
 use Prim.Native.Nat.{ℕ, _+_, _*_, _-_, _/_, _≤_, _<_}
 use native.Mathlib.Omega.{arith}
-use lib.ListN.{length, take, drop, replicate, length-replicate}
+use lib.ListN.{length, take, drop, replicate, length-replicate, drop-of-length-le}
 use lib.Seq.{length-take-le, drop-append-add, drop-drop}
 use borrow.Author.Tests.{lt-ltb, le-ltb}
 use Rattle.lists.specs.Lists.{over}
-use Rattle.lists.specs.Answer.{done, refused, Check, _when_, refusal, numberOf}
+use Rattle.lists.specs.Answer.{Answer, done, refused, Check, _when_, refusal, numberOf, answerOf, roomAfter}
 use Rattle.hierarchy.specs.Hierarchy.{edgesOf, hierarchyChecks, Legal}
 use Rattle.intervals.specs.Numbering.{numbering}
 use Rattle.intervals.specs.Intervals.{intervalTable}
@@ -53,7 +53,7 @@ none-of (c ∷ cs) f e =
     (λ h. absurd (let s = ap numberOf (refused-here c cs h) in omega (arith, f .0)))
     (λ h. let s = refused-later c cs h in s ∙ none-of cs (f .1) (e ∙ ap numberOf s))
 
-pub some-of : (o : Option ℕ) (k : ℕ) → k ≡ numberOf o → (k ≡ 0 → ⊥) → o ≡ some k
+some-of : (o : Option ℕ) (k : ℕ) → k ≡ numberOf o → (k ≡ 0 → ⊥) → o ≡ some k
 some-of none k e d = absurd (d e)
 some-of (some j) k e d = ap some (sym e)
 
@@ -103,6 +103,35 @@ module _ (n : ℕ) (edges : List ℕ) (count : ℕ) where
           let r = refused-later (1 when buildShort n edges count places scratch) (hierarchyChecks n edges count) h ∙ legal in
           rw (r, h) (refl, (p, wiped))
 
+-- ---- a call that looks at 1 and 5 to 9 and writes a list into one room: what is left after each of its ends
+
+module _ (n : ℕ) (edges : List ℕ) (count : ℕ) (short : Bool) (xs room : List ℕ) where
+  abbrev decided : Option ℕ
+  decided = refusal (1 when short ∷ hierarchyChecks n edges count)
+
+  abbrev Left : Answer (Unit {0}) → List ℕ → Type 0
+  Left answer room′ = (answer ≡ answerOf decided tt) × (room′ ≡ roomAfter decided xs room)
+
+  -- after 1
+  pub room-short : short ≡ true → Left (refused 1) room
+  room-short h = rw (refused-here (1 when short) (hierarchyChecks n edges count) h) (refl, refl)
+
+  module _ (h : short ≡ false) where
+    -- after another refusal
+    pub room-refused : (k : ℕ) → k ≡ numberOf (refusal (hierarchyChecks n edges count)) → (k ≡ 0 → ⊥) → Left (refused k) room
+    room-refused k e d =
+        rw (refused-later (1 when short) (hierarchyChecks n edges count) h ∙ some-of (refusal (hierarchyChecks n edges count)) k e d) (refl, refl)
+
+    -- after all
+    pub room-done : Legal n edges count → (room′ : List ℕ) → room′ ≡ over xs room → Left (done tt) room′
+    room-done legal room′ p = rw (refused-later (1 when short) (hierarchyChecks n edges count) h ∙ legal) (refl, p)
+
+    -- where the room is just as long
+    pub room-alone : Legal n edges count → length room ≡ length xs → roomAfter decided xs room ≡ xs
+    unfolding over
+    room-alone legal long =
+        rw (refused-later (1 when short) (hierarchyChecks n edges count) h ∙ legal, drop-of-length-le room {i = length xs} (omega (arith, long))) (append-nil xs)
+
 -- ---- the numbers alone
 
 module _ (n : ℕ) (edges : List ℕ) (count : ℕ) (places : List ℕ) where
@@ -115,25 +144,19 @@ module _ (n : ℕ) (edges : List ℕ) (count : ℕ) (places : List ℕ) where
   pub many-enough : n ≤ length places → count ≤ length edges / 2 → numbersShort n edges count places ≡ false
   many-enough g h = rw (le-ltb (length places) n g, le-ltb (length edges) (2 * count) (omega arith)) refl
 
-  -- what is left after 1
-  pub numbers-short : numbersShort n edges count places ≡ true
-      → (refused 1 ≡ numbersStep n edges count places .answer) × (places ≡ numbersStep n edges count places .places)
+  -- what numbering leaves
+  abbrev NumbersLeft : Answer (Unit {0}) → List ℕ → Type 0
+  NumbersLeft answer places′ = (answer ≡ numbersStep n edges count places .answer) × (places′ ≡ numbersStep n edges count places .places)
+
+  pub numbers-short : numbersShort n edges count places ≡ true → NumbersLeft (refused 1) places
   unfolding numbersStep
-  numbers-short h = rw (refused-here (1 when numbersShort n edges count places) (hierarchyChecks n edges count) h) (refl, refl)
+  numbers-short = room-short n edges count (numbersShort n edges count places) (numbering n (edgesOf edges count)) places
 
   module _ (h : numbersShort n edges count places ≡ false) where
-    -- after another refusal
-    pub numbers-refused : (k : ℕ) → k ≡ numberOf (refusal (hierarchyChecks n edges count)) → (k ≡ 0 → ⊥)
-        → (refused k ≡ numbersStep n edges count places .answer) × (places ≡ numbersStep n edges count places .places)
+    pub numbers-refused : (k : ℕ) → k ≡ numberOf (refusal (hierarchyChecks n edges count)) → (k ≡ 0 → ⊥) → NumbersLeft (refused k) places
     unfolding numbersStep
-    numbers-refused k e d =
-        let r = refused-later (1 when numbersShort n edges count places) (hierarchyChecks n edges count) h ∙ some-of (refusal (hierarchyChecks n edges count)) k e d in
-        rw r (refl, refl)
+    numbers-refused = room-refused n edges count (numbersShort n edges count places) (numbering n (edgesOf edges count)) places h
 
-    -- after numbering
-    pub numbers-done : Legal n edges count → (places′ : List ℕ) → places′ ≡ over (numbering n (edgesOf edges count)) places
-        → (done tt ≡ numbersStep n edges count places .answer) × (places′ ≡ numbersStep n edges count places .places)
+    pub numbers-done : Legal n edges count → (places′ : List ℕ) → places′ ≡ over (numbering n (edgesOf edges count)) places → NumbersLeft (done tt) places′
     unfolding numbersStep
-    numbers-done legal places′ p =
-        let r = refused-later (1 when numbersShort n edges count places) (hierarchyChecks n edges count) h ∙ legal in
-        rw r (refl, p)
+    numbers-done = room-done n edges count (numbersShort n edges count places) (numbering n (edgesOf edges count)) places h

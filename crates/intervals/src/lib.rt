@@ -285,7 +285,7 @@ fn lesser(x: u16, y: u16) -> u16
 }
 
 // The greater of two numbers.
-fn greater(x: u16, y: u16) -> u16
+pub fn greater(x: u16, y: u16) -> u16
     ensures { λ r. ⌜ r ≡ max x y ⌝ }
 {
     if x <= y {

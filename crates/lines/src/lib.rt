@@ -2,7 +2,7 @@
 ghost use mathlib.Core.Path.{_≡_};
 ghost use mathlib.Core.Bool.{true};
 ghost use Prim.Native.Nat.{_-_, _*_, _≤_};
-ghost use lib.ListN.{length, take, replicate};
+ghost use lib.ListN.{length, take};
 ghost use Rattle.lists.specs.Lists.{every};
 ghost use Rattle.lists.specs.Answer.{done};
 ghost use Rattle.locks.specs.Lent.{lent};
@@ -113,17 +113,6 @@ pub fn put_steps(
     progress
 }
 
-// Puts zeros.
-fn clear(values: &mut [u64])
-    ensures { λ _. ⌜ now (values .exit) ≡ replicate (length (now (values .entry))) 0 ⌝ }
-{
-    let mut i = 0;
-    while i < values.len() {
-        values[i] = 0;
-        i += 1;
-    }
-}
-
 // Runs the steps over a built hierarchy, and puts the lines.
 fn list_built(
     n: usize,
@@ -137,7 +126,7 @@ fn list_built(
     requires { ⌜ every isRecord (recordList (now records)) ≡ true ⌝ }
     ensures { λ r. ⌜ RunListed (performAll (startOf (lent n (now (intervals .entry)) (now (edges .entry)) «edge_count») (length (now (values .entry)))) (stepRecords (recordList (now (records .entry))))) (now (text .entry)) (now (values .exit)) (now (text .exit)) r ⌝ }
 {
-    clear(values);
+    hierarchy::clear_words(values);
     let start = Progress {
         desk: Desk::fresh(),
         number: 1,

@@ -1,12 +1,11 @@
 -- The reaches of named nodes meet just where those of two of them do. Assumes nothing.
-use mathlib.Core.Path.{_≡_, refl, sym, ap, _∙_}
+use mathlib.Core.Path.{_≡_, refl, sym, _∙_}
 use mathlib.Core.List.{List, [], _∷_}
-use mathlib.Core.Bool.{Bool, true, false, not, _&&_}
+use mathlib.Core.Bool.{Bool, true, false, _&&_}
 use Prim.Native.Nat.{ℕ, _<_}
 use native.Mathlib.Omega.{arith}
-use lib.Dec.{eqb, ltb}
-use lib.ListN.{getD}
-use borrow.Author.Tests.{eqb-false, ne-eqb, ltb-true, ltb-false, not-true}
+use lib.Dec.{ltb}
+use borrow.Author.Tests.{ltb-true, ltb-false}
 use Rattle.lists.specs.Lists.{any}
 use Rattle.lists.proofs.Bools.{bool, not-both, both-ways, and-left, and-right, and-both, or-either}
 use Rattle.lists.proofs.Bounded.{any-stop}
@@ -18,6 +17,7 @@ use Rattle.hierarchy.proofs.Legals.{promised}
 use Rattle.interval_laws.proofs.Laws.{reach-agrees}
 use Rattle.reach_sets.specs.Sets.{has, setAt, setTable}
 use Rattle.reach_sets.proofs.Nodes.{has-past}
+use Rattle.reach_sets.proofs.Fills.{on-flag, flag-on}
 use Rattle.reach_sets.proofs.Calls.{reach-set}
 use Rattle.needless.specs.Waits.{reachesMeet}
 use Rattle.needless_laws.specs.Visits.{nodesMeet}
@@ -74,12 +74,10 @@ module _ (n : ℕ) (table : List ℕ) (edgeCount : ℕ) (legal : Legal n table e
 
   -- a node has a flag where it is reached
   pub flag-reached : (a z : ℕ) → a < n → Reach ways a z → flagged (reach n ways a) z ≡ true
-  flag-reached a z h w = ap not (ne-eqb (getD (reach n ways a) z 0) 0 (λ e. omega (arith, reach-agrees n table edgeCount legal a z h .0 w)))
+  flag-reached a z h w = on-flag (reach n ways a) z (reach-agrees n table edgeCount legal a z h .0 w)
 
   pub reached-flag : (a z : ℕ) → a < n → flagged (reach n ways a) z ≡ true → Reach ways a z
-  reached-flag a z h e =
-      let some = eqb-false (getD (reach n ways a) z 0) 0 (not-true (eqb (getD (reach n ways a) z 0) 0) e) in
-      reach-agrees n table edgeCount legal a z h .1 (omega (arith, some))
+  reached-flag a z h e = reach-agrees n table edgeCount legal a z h .1 (flag-on (reach n ways a) z e)
 
   -- the plain engine's set of a node has just the nodes that it reaches
   pub set-reach : (x y : ℕ) → x < n → (Reach ways x y → has (setAt (setTable n ways) x) y ≡ true) × (has (setAt (setTable n ways) x) y ≡ true → Reach ways x y)

@@ -1,24 +1,23 @@
 -- The set of a call: the sets of its names, joined one after the other, have what one of the names reaches. Assumes nothing.
 use mathlib.Core.Path.{_≡_, refl, sym, ap, _∙_}
 use mathlib.Core.List.{List, [], _∷_, append-nil}
-use mathlib.Core.Bool.{Bool, true, false, _||_, or-false, or-assoc}
+use mathlib.Core.Bool.{Bool, false, _||_, or-false, or-assoc}
 use Prim.Native.Nat.{ℕ, _+_, _*_, _≤_, _<_}
 use native.Mathlib.Omega.{arith}
-use lib.Dec.{eqb, ltb}
+use lib.Dec.{ltb}
 use lib.ListN.{length, getD, drop, replicate, drop-of-length-le, List·getD-eq-default, length-replicate}
 use lib.Seq.{set-out}
-use borrow.Author.Tests.{ltb-true, ltb-false, eqb-false, not-true}
+use borrow.Author.Tests.{ltb-true, ltb-false}
 use Rattle.lists.specs.Lists.{any}
 use Rattle.lists.proofs.Bools.{bool}
 use Rattle.lists.proofs.Loops.{drop-step}
 use Rattle.lists.proofs.Marks.{zero-at}
 use Rattle.hierarchy.specs.Hierarchy.{flagged, spreads, reach, inReach}
-use Rattle.hierarchy.specs.Inner.{On}
 use Rattle.hierarchy.proofs.Reaches.{spreads-only}
 use Rattle.reach_sets.specs.declared.NodeSet.{NodeSet}
 use Rattle.reach_sets.specs.Sets.{has, noNodes, joined, setAt, joinedWith, callSet, setTable}
 use Rattle.reach_sets.proofs.Nodes.{has-none, has-joined}
-use Rattle.reach_sets.proofs.Fills.{has-flagged, table-set, table-long}
+use Rattle.reach_sets.proofs.Fills.{flag-on, has-flagged, table-set, table-long}
 
 -- one name more
 pub joining-name : (table names : List ℕ) (s : NodeSet) (i : ℕ) → joinedWith s table (drop i names) ≡ joinedWith noNodes table names → i < length names
@@ -33,9 +32,6 @@ unfolding joinedWith
 joining-last table names s i inv h = rw (drop-of-length-le names {i = i} h) at inv
 
 -- ---- what it has
-
-flag-on : (flags : List ℕ) (x : ℕ) → flagged flags x ≡ true → On flags x
-flag-on flags x f = let d = eqb-false (getD flags x 0) 0 (not-true (eqb (getD flags x 0) 0) f) in omega (arith, d)
 
 -- a node that is not below n reaches nothing among the n
 past-none : (n : ℕ) (es : List ℕ) (name x : ℕ) → n ≤ name → flagged (reach n es name) x ≡ false

@@ -23,6 +23,13 @@ use Rattle.reach_sets.proofs.Nodes.{four, has-self, has-only, Words, sa
 
 -- ---- a set of flags
 
+-- a flag, as a test and as a number
+pub on-flag : (flags : List ℕ) (x : ℕ) → On flags x → flagged flags x ≡ true
+on-flag flags x o = ap not (ne-eqb (getD flags x 0) 0 (λ e. omega (arith, o, e)))
+
+pub flag-on : (flags : List ℕ) (x : ℕ) → flagged flags x ≡ true → On flags x
+flag-on flags x f = let d = eqb-false (getD flags x 0) 0 (not-true (eqb (getD flags x 0) 0) f) in omega (arith, d)
+
 one-is : (b : Bool) → eqb (one b) 1 ≡ b
 one-is true = refl
 one-is false = refl
@@ -76,12 +83,6 @@ module _ (n : ℕ) (es : List ℕ) (promise : Promise n es) (t₀ t : List ℕ)
       let s : y < 256 = omega (arith, l, promise .few) in
       along w s (kept .more y y s (ap (λ (s : NodeSet). has s y) (start y l) ∙ has-self y s))
 
-  on-flagged : (x y : ℕ) → On (reach n es x) y → flagged (reach n es x) y ≡ true
-  on-flagged x y o = ap not (ne-eqb (getD (reach n es x) y 0) 0 (λ e. omega (arith, o, e)))
-
-  flagged-on : (x y : ℕ) → flagged (reach n es x) y ≡ true → On (reach n es x) y
-  flagged-on x y f = let d = eqb-false (getD (reach n es x) y 0) 0 (not-true (eqb (getD (reach n es x) y 0) 0) f) in omega (arith, d)
-
   -- so it has the definition's set
   pub set-is : (x : ℕ) → x < n → setAt t x ≡ setOf (reach n es x)
   set-is x h =
@@ -89,9 +90,9 @@ module _ (n : ℕ) (es : List ℕ) (promise : Promise n es) (t₀ t : List ℕ)
       (flags-words (reach n es x))
       (λ y g.
       bool (has (setAt t x) y)
-      (λ a. a ∙ sym (has-flagged (reach n es x) y g ∙ on-flagged x y (reach-all es n ends x y h (has-reach x y h g a))))
+      (λ a. a ∙ sym (has-flagged (reach n es x) y g ∙ on-flag (reach n es x) y (reach-all es n ends x y h (has-reach x y h g a))))
       (λ a. a ∙ sym (bool (has (setOf (reach n es x)) y)
-      (λ b. not-both (has (setAt t x) y) (reach-has x y h (reach-only es n ends x y (flagged-on x y (sym (has-flagged (reach n es x) y g) ∙ b)))) a)
+      (λ b. not-both (has (setAt t x) y) (reach-has x y h (reach-only es n ends x y (flag-on (reach n es x) y (sym (has-flagged (reach n es x) y g) ∙ b)))) a)
       (λ b. b))))
 
 -- a table of sets, one by one

@@ -1,12 +1,12 @@
 -- The plain engine: what it leaves after each of its ends. Assumes nothing.
 use mathlib.Core.Path.{_≡_, refl, sym, ap, _∙_}
-use mathlib.Core.List.{List, append-nil}
+use mathlib.Core.List.{List}
 use mathlib.Core.Bool.{Bool, true, false, not, _&&_, _||_}
 use mathlib.Core.Option.{Option, none, some}
 use Prim.Native.Nat.{ℕ, _*_, _/_, _≤_, _<_}
 use native.Mathlib.Omega.{arith}
 use lib.Dec.{leb, ltb}
-use lib.ListN.{length, drop, replicate, drop-of-length-le}
+use lib.ListN.{length, drop, replicate}
 use borrow.Author.Tests.{lt-leb, lt-ltb, le-ltb, ltb-false}
 use Rattle.lists.specs.Lists.{over}
 use Rattle.lists.specs.Answer.{Answer, done, refused, _when_, refusal, numberOf, answerOf, roomAfter}
@@ -17,7 +17,7 @@ use Rattle.intervals.specs.Numbering.{numbering}
 use Rattle.intervals.specs.Intervals.{intervalTable}
 use Rattle.intervals.specs.Build.{buildStep, numbersShort, numbersStep}
 use Rattle.hierarchy.proofs.Legals.{promised}
-use Rattle.intervals.proofs.Builds.{some-of, zeroed}
+use Rattle.intervals.proofs.Builds.{zeroed, room-short, room-refused, room-done, room-alone}
 use Rattle.intervals.proofs.Extremes.{numbering-long}
 use Rattle.reach_sets.specs.Sets.{setTable}
 use Rattle.reach_sets.specs.Plain.{setsShort, setsStep, plainShort, plainStep}
@@ -35,34 +35,28 @@ module _ (n : ℕ) (edges : List ℕ) (count : ℕ) where
     pub many-enough : n ≤ length words / 4 → count ≤ length edges / 2 → setsShort n edges count words ≡ false
     many-enough g h = rw (le-ltb (length words) (4 * n) (omega arith), le-ltb (length edges) (2 * count) (omega arith)) refl
 
-    -- after 1
-    pub sets-short : setsShort n edges count words ≡ true → (refused 1 ≡ setsStep n edges count words .answer) × (words ≡ setsStep n edges count words .words)
+    -- what working them out leaves
+    abbrev SetsLeft : Answer (Unit {0}) → List ℕ → Type 0
+    SetsLeft answer words′ = (answer ≡ setsStep n edges count words .answer) × (words′ ≡ setsStep n edges count words .words)
+
+    pub sets-short : setsShort n edges count words ≡ true → SetsLeft (refused 1) words
     unfolding setsStep
-    sets-short h = rw (refused-here (1 when setsShort n edges count words) (hierarchyChecks n edges count) h) (refl, refl)
+    sets-short = room-short n edges count (setsShort n edges count words) (setTable n (edgesOf edges count)) words
 
     module _ (h : setsShort n edges count words ≡ false) where
-      -- after another refusal
-      pub sets-refused : (k : ℕ) → k ≡ numberOf (refusal (hierarchyChecks n edges count)) → (k ≡ 0 → ⊥)
-          → (refused k ≡ setsStep n edges count words .answer) × (words ≡ setsStep n edges count words .words)
+      pub sets-refused : (k : ℕ) → k ≡ numberOf (refusal (hierarchyChecks n edges count)) → (k ≡ 0 → ⊥) → SetsLeft (refused k) words
       unfolding setsStep
-      sets-refused k e d =
-          let r = refused-later (1 when setsShort n edges count words) (hierarchyChecks n edges count) h ∙ some-of (refusal (hierarchyChecks n edges count)) k e d in
-          rw r (refl, refl)
+      sets-refused = room-refused n edges count (setsShort n edges count words) (setTable n (edgesOf edges count)) words h
 
-      -- after all
-      pub sets-done : Legal n edges count → (words′ : List ℕ) → words′ ≡ over (setTable n (edgesOf edges count)) words
-          → (done tt ≡ setsStep n edges count words .answer) × (words′ ≡ setsStep n edges count words .words)
+      pub sets-done : Legal n edges count → (words′ : List ℕ) → words′ ≡ over (setTable n (edgesOf edges count)) words → SetsLeft (done tt) words′
       unfolding setsStep
-      sets-done legal words′ p =
-          let r = refused-later (1 when setsShort n edges count words) (hierarchyChecks n edges count) h ∙ legal in
-          rw r (refl, p)
+      sets-done = room-done n edges count (setsShort n edges count words) (setTable n (edgesOf edges count)) words h
 
       -- into just as many words as are needed
       pub sets-are : Legal n edges count → length words ≡ 4 * n → setsStep n edges count words .words ≡ setTable n (edgesOf edges count)
-      unfolding setsStep over
+      unfolding setsStep
       sets-are legal long =
-          let r = refused-later (1 when setsShort n edges count words) (hierarchyChecks n edges count) h ∙ legal in
-          rw (r, drop-of-length-le words {i = length (setTable n (edgesOf edges count))} (omega (arith, table-long n (edgesOf edges count), long))) (append-nil (setTable n (edgesOf edges count)))
+          room-alone n edges count (setsShort n edges count words) (setTable n (edgesOf edges count)) words h legal (long ∙ sym (table-long n (edgesOf edges count)))
 
   -- ---- building
   module _ (places words : List ℕ) where
@@ -118,9 +112,9 @@ module _ (n : ℕ) (edges : List ℕ) (count : ℕ) (places : List ℕ) where
   table = intervalTable n (edgesOf edges count)
 
   -- a refusal changes nothing
-  room-refused : (k : ℕ) (o : Option ℕ) → _≡_ {A = Answer (Unit {0})} (refused k) (answerOf o tt) → places ≡ roomAfter o table places
-  room-refused k none e = not-both true refl cc
-  room-refused k (some j) e = refl
+  kept-refused : (k : ℕ) (o : Option ℕ) → _≡_ {A = Answer (Unit {0})} (refused k) (answerOf o tt) → places ≡ roomAfter o table places
+  kept-refused k none e = not-both true refl cc
+  kept-refused k (some j) e = refl
 
   -- over 256 nodes
   pub too-large : 256 < n → _≡_ {A = Answer (Unit {0})} (refused 5) (answerOf judged tt) × (places ≡ roomAfter judged table places)
@@ -142,7 +136,7 @@ module _ (n : ℕ) (edges : List ℕ) (count : ℕ) (places : List ℕ) where
 
     -- refused
     pub numbers-refused : (k : ℕ) → refused k ≡ numbersStep n edges count numbers .answer → _≡_ {A = Answer (Unit {0})} (refused k) (answerOf judged tt) × (places ≡ roomAfter judged table places)
-    numbers-refused k e = (e ∙ answers, room-refused k judged (e ∙ answers))
+    numbers-refused k e = (e ∙ answers, kept-refused k judged (e ∙ answers))
 
     -- or legal, and numbered
     pub numbers-legal : done tt ≡ numbersStep n edges count numbers .answer → Legal n edges count
@@ -153,11 +147,10 @@ module _ (n : ℕ) (edges : List ℕ) (count : ℕ) (places : List ℕ) where
         by (some k) q = not-both true refl cc
 
     pub numbers-are : Legal n edges count → numbersStep n edges count numbers .places ≡ numbering n (edgesOf edges count)
-    unfolding numbersStep over
+    unfolding numbersStep
     numbers-are legal =
-        let r = refused-later (1 when numbersShort n edges count numbers) (hierarchyChecks n edges count) lent-enough ∙ legal in
-        let l = numbering-long n (edgesOf edges count) (promised n edges count legal) in
-        rw (r, drop-of-length-le numbers {i = length (numbering n (edgesOf edges count))} (omega (arith, l, long))) (append-nil (numbering n (edgesOf edges count)))
+        room-alone n edges count (numbersShort n edges count numbers) (numbering n (edgesOf edges count)) numbers lent-enough legal
+        (long ∙ sym (numbering-long n (edgesOf edges count) (promised n edges count legal)))
 
   -- what is legal is written
   pub room-built : Legal n edges count → (places′ : List ℕ) → places′ ≡ over table places

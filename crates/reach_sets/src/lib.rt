@@ -2,7 +2,7 @@
 ghost use mathlib.Core.Path.{_≡_};
 ghost use mathlib.Core.List.{List};
 ghost use mathlib.Core.Bool.{false, not};
-ghost use Prim.Native.Nat.{ℕ, _+_, _*_, _/_, _<_, _≤_, max};
+ghost use Prim.Native.Nat.{ℕ, _+_, _*_, _/_, _<_, _≤_};
 ghost use lib.Dec.{eqb};
 ghost use lib.Bits.{bitAnd};
 ghost use lib.ListN.{length, getD, drop, replicate};
@@ -261,16 +261,6 @@ fn less_of(x: u16, y: u16) -> u16
     y
 }
 
-// The greater of two numbers.
-fn greater(x: u16, y: u16) -> u16
-    ensures { λ r. ⌜ r ≡ max x y ⌝ }
-{
-    if x <= y {
-        return y;
-    }
-    x
-}
-
 // The least and the greatest number among the nodes of a set.
 fn span(set: NodeSet, numbers: &[u16]) -> Interval
     ensures { λ r. ⌜ ((flags : List ℕ) → length flags ≡ length (now (numbers .entry)) → ((y : ℕ) → y < length flags → having set y ≡ flagged flags y) → r ≡ record { low = least (numbersAmong flags (now (numbers .entry))); high = greatest (numbersAmong flags (now (numbers .entry))) }) ⌝ }
@@ -281,7 +271,7 @@ fn span(set: NodeSet, numbers: &[u16]) -> Interval
     while y < numbers.len() {
         let number = counted_if(has(set, y), numbers[y]);
         low = less_of(low, number);
-        high = greater(high, number);
+        high = intervals::greater(high, number);
         y += 1;
     }
     Interval { low, high }
@@ -301,23 +291,12 @@ fn write_spans(words: &[u64], numbers: &[u16], places: &mut [u16])
     }
 }
 
-// Sets each word to 0.
-fn clear_words(words: &mut [u64])
-    ensures { λ _. ⌜ now (words .exit) ≡ replicate (length (now (words .entry))) 0 ⌝ }
-{
-    let mut i = 0;
-    while i < words.len() {
-        words[i] = 0;
-        i += 1;
-    }
-}
-
 // Zeroes the words that building may use.
 fn wipe(words: &mut [u64])
     requires { ⌜ 1024 ≤ length (now words) ⌝ }
     ensures { λ _. ⌜ now (words .exit) ≡ over (replicate 1024 0) (now (words .entry)) ⌝ }
 {
-    clear_words(&mut words[..WORDS]);
+    hierarchy::clear_words(&mut words[..WORDS]);
 }
 
 // Writes the intervals of n nodes of a legal hierarchy, by their numbers, over the first places.

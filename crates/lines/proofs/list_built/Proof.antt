@@ -15,8 +15,8 @@ use Rattle.lines.proofs.list_built.Statement.{statement}
 use Rattle.lines.proofs.list_built.Tie as tie
 use Rattle.lines.proofs.Runs.{run-listed}
 
-clear-requires : tie.Need-clear-requires
-clear-requires c κs = search needs
+clear-words-requires : tie.Need-clear-words-requires
+clear-words-requires c κs = search needs
 
 fresh-requires : tie.Need-fresh-requires
 fresh-requires c κs = search needs
@@ -50,9 +50,9 @@ returns c =
     (c .before .before .before .before .before .before .before .before .before .before .before .before .before .before .before .before .before .before .before .before .before .before .pre)
     (ap (λ (d : Desk). record { desk = d; number = 1; at = 0 }) (c .before .before .before .before .before .before .before .before .before .before .before .before .fresh .ensures))
     (s .ensures ∙ ap (λ (v : List ℕ). recordsWritten (writtenOf H start v (z .text .now)) rs)
-    (c .before .before .before .before .before .before .before .before .before .before .before .before .before .before .before .clear .ensures)) (c .before .before .put-end .ensures)
+    (c .before .before .before .before .before .before .before .before .before .before .before .before .before .before .before .clear-words .ensures)) (c .before .before .put-end .ensures)
 
 pub list-built-spec : {M : Type 1} → statement M
 list-built-spec =
     tie.close
-    (tie.spec clear-requires fresh-requires put-steps-requires put-end-requires same-length same-length-2 returns)
+    (tie.spec clear-words-requires fresh-requires put-steps-requires put-end-requires same-length same-length-2 returns)

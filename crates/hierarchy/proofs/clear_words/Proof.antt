@@ -4,8 +4,8 @@ use native.Mathlib.Omega.{arith}
 use lib.ListN.{length, length-set}
 use Rattle.lists.proofs.Loops.{Filling, filling-start, filling-more, filling-end}
 use borrow.Author.Needs.{needs}
-use Rattle.reach_sets.proofs.clear_words.Statement.{statement}
-use Rattle.reach_sets.proofs.clear_words.Tie as tie
+use Rattle.hierarchy.proofs.clear_words.Statement.{statement}
+use Rattle.hierarchy.proofs.clear_words.Tie as tie
 
 abbrev Inv-loop : tie.InvT-loop
 Inv-loop words₀ i₀ words i = Filling 0 words₀ words i
