@@ -3,14 +3,13 @@ use mathlib.Core.Path.{_≡_, refl, sym, ap, _∙_}
 use mathlib.Core.List.{List, [], _∷_, _++_, append-assoc, append-nil}
 use mathlib.Core.Bool.{Bool, true, false}
 use Prim.Native.Nat.{ℕ, zero, suc, _+_, _≤_, _<_, min}
-use native.Mathlib.Numerals.{add-one}
 use native.Mathlib.Omega.{arith}
 use lib.Dec.{ltb}
 use lib.ListN.{length, getD, take, set, replicate, length-append, length-replicate, length-take}
 use borrow.Author.Tests.{ltb-true, ltb-false}
-use lib.Seq.{set-out, take-suc, take-append-seam, length-take-le, take-take, take-at, take-all}
+use lib.Seq.{set-out, take-append-seam, length-take-le, take-take, take-at, take-all}
 use Rattle.lists.specs.Lists.{keep, keptIf}
-use Rattle.lists.proofs.Loops.{keep-few}
+use Rattle.lists.proofs.Loops.{take-step, keep-few}
 use Rattle.lists.proofs.Bools.{bool}
 use Rattle.arrivals.specs.declared.Listed.{Listed}
 use Rattle.arrivals.specs.Arrivals.{listOf, queuePlaces, Lists}
@@ -56,7 +55,7 @@ keep-snoc p [] x = refl
 keep-snoc p (y ∷ xs) x = ap (keptIf (p y) y) (keep-snoc p xs x) ∙ kept-append (p y) y (keep p xs) (keptIf (p x) x [])
 
 pub keep-more : (p : ℕ → Bool) (l : List ℕ) (i : ℕ) → i < length l → keep p (take (i + 1) l) ≡ keep p (take i l) ++ keptIf (p (getD l i 0)) (getD l i 0) []
-keep-more p l i h = ap (keep p) (ap (λ (k : ℕ). take k l) (add-one i) ∙ take-suc l i 0 h) ∙ keep-snoc p (take i l) (getD l i 0)
+keep-more p l i h = ap (keep p) (take-step l i 0 h) ∙ keep-snoc p (take i l) (getD l i 0)
 
 -- THE LOOPS. A copy of the first places of a queue
 pub copy-more : (queue : List ℕ) (places : List ℕ) (i : ℕ) → i < length queue → i < 32 → places ≡ queuePlaces (take i queue)
@@ -66,7 +65,7 @@ copy-more queue places i h g e =
     ap (λ (t : List ℕ). set t i (getD queue i 0)) e
     ∙ ap (λ (k : ℕ). set (queuePlaces (take i queue)) k (getD queue i 0)) (sym n)
     ∙ places-push (take i queue) (getD queue i 0) (omega arith)
-    ∙ ap queuePlaces (sym (ap (λ (k : ℕ). take k queue) (add-one i) ∙ take-suc queue i 0 h))
+    ∙ ap queuePlaces (sym (take-step queue i 0 h))
 
 -- those kept of the first places of a queue, and their count
 pub record Kept (p : ℕ → Bool) (queue places : List ℕ) (count i : ℕ) : Type 0 where

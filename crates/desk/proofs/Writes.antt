@@ -5,8 +5,9 @@ use Prim.Native.Nat.{ℕ, suc, _+_, _≤_, _<_}
 use native.Mathlib.Numerals.{add-one}
 use native.Mathlib.Omega.{arith}
 use lib.ListN.{length, getD, take, drop, set, length-append, length-drop}
-use lib.Seq.{take-suc, drop-cons, set-append-seam, length-take-le}
+use lib.Seq.{drop-cons, set-append-seam, length-take-le}
 use Rattle.lists.specs.Lists.{over}
+use Rattle.lists.proofs.Loops.{take-step}
 
 -- one element more
 over-push : (xs : List ℕ) (x : ℕ) (buffer : List ℕ) → length xs < length buffer → set (over xs buffer) (length xs) x ≡ over (xs ++ (x ∷ [])) buffer
@@ -25,7 +26,7 @@ over-next places buffer list i h g e =
     ap (λ (t : List ℕ). set t i (getD places i 0)) e
     ∙ ap (λ (k : ℕ). set (over (take i places) buffer) k (getD places i 0)) (sym n)
     ∙ over-push (take i places) (getD places i 0) buffer (omega arith)
-    ∙ ap (λ (t : List ℕ). over t buffer) (sym (ap (λ (k : ℕ). take k places) (add-one i) ∙ take-suc places i 0 h))
+    ∙ ap (λ (t : List ℕ). over t buffer) (sym (take-step places i 0 h))
 
 -- the buffer keeps its length
 pub over-length : (xs buffer : List ℕ) → length xs ≤ length buffer → length (over xs buffer) ≡ length buffer

@@ -1,10 +1,12 @@
--- Building and covers beyond the starred cases and the edges: which refusal is given, what is left in the buffers, intervals, covers. Assumes nothing.
+-- Building and covers beyond the starred cases and the edges: which refusal is given, what is left in the buffers, intervals, covers, bounds of a call.
+-- Assumes nothing.
 use mathlib.Core.List.{List, [], _∷_, _++_}
 use Prim.Native.Nat.{ℕ, _*_, _/_}
 use lib.ListN.{length, replicate}
 use Rattle.lists.specs.Answer.{numberOf}
 use Rattle.intervals.specs.Build.{BuildResult, buildRefusal, buildStep}
-use Rattle.intervals.specs.Cover.{coverOf}
+use Rattle.intervals.specs.Intervals.{intervalTable}
+use Rattle.intervals.specs.Cover.{callInterval, coverOf}
 use Rattle.examples.specs.Cases.{Case, intervals, cover}
 use Rattle.examples.specs.Table.{T, shared}
 use Rattle.examples.specs.Rows.{Row, is, are}
@@ -16,6 +18,10 @@ building n edges scratch = numberOf (buildRefusal n edges (length edges / 2) (re
 -- building two nodes, lent five places of 7 and so many bytes of 9
 abbrev pub pair : List ℕ → ℕ → BuildResult
 pair edges scratch = buildStep 2 edges (length edges / 2) (replicate 5 7) (replicate scratch 9)
+
+-- low and high of a call of these names in table T
+abbrev pub boundsT : List ℕ → List ℕ
+boundsT names = let call = callInterval (intervalTable 10 T) names in call .low ∷ call .high ∷ []
 
 -- the rows
 unfoldable pub hierarchies : List Row
@@ -57,6 +63,12 @@ hierarchies =
     -- past the end of a table stands [0,0], which a call without names has
     ∷ is (coverOf 9 (3 ∷ 4 ∷ 1 ∷ 1 ∷ []) []) 2
     ∷ is (coverOf 9 (3 ∷ 4 ∷ 0 ∷ []) []) 1
+    -- the bounds of a call of T, after each of the names 4, 5, 8, 9, 3: the first starts them, 5 and 8 raise the high, 9 lies inside, 3 lowers the low
+    ∷ are (boundsT (4 ∷ [])) (2 ∷ 2 ∷ [])
+    ∷ are (boundsT (4 ∷ 5 ∷ [])) (2 ∷ 3 ∷ [])
+    ∷ are (boundsT (4 ∷ 5 ∷ 8 ∷ [])) (2 ∷ 4 ∷ [])
+    ∷ are (boundsT (4 ∷ 5 ∷ 8 ∷ 9 ∷ [])) (2 ∷ 4 ∷ [])
+    ∷ are (boundsT (4 ∷ 5 ∷ 8 ∷ 9 ∷ 3 ∷ [])) (1 ∷ 4 ∷ [])
     ∷ []
 
 -- intervals of shared children and of cycles, and covers of T

@@ -12,11 +12,11 @@ use Rattle.intervals.specs.Intervals.{intervalTable}
 use Rattle.intervals.specs.Cover.{lowAt, highAt, intervalAt, callInterval, contains, width, closest, coverOf, IsCover}
 use Rattle.intervals.specs.declared.Interval.{Interval}
 use Rattle.lists.proofs.Bools.{and-left, and-right, and-both}
-use Rattle.lists.proofs.Members.{In, head, tail, least-is, greatest-is}
+use Rattle.lists.proofs.Members.{In, in-nil, in-cons, head, tail, least-is, greatest-is}
 use Rattle.hierarchy.proofs.Legals.{promised}
 use Rattle.intervals.proofs.Covers.{closest-cover}
 use Rattle.interval_laws.specs.Covers.{Rooted}
-use Rattle.interval_laws.proofs.Laws.{map-is, name-once, built-low, built-high, interval-real, interval-inside-root}
+use Rattle.interval_laws.proofs.Laws.{map-is, same-members, built-low, built-high, interval-real, interval-inside-root}
 
 -- the test of containment, by its ends
 pub contains-ends : (a b : Interval) → contains a b ≡ true → (a .low ≤ b .low) × (b .high ≤ a .high)
@@ -45,10 +45,10 @@ closest-none (suc k) table call f = rw (f k (omega arith)) (closest-none k table
 
 -- a call that names one node, however often, has the call's interval of the one name
 pub same-names : (table : List ℕ) (x name : ℕ) (names : List ℕ) → ((r : ℕ) → In r (name ∷ names) → r ≡ x) → callInterval table (name ∷ names) ≡ callInterval table (x ∷ [])
-same-names table x name [] f = ap (λ (r : ℕ). callInterval table (r ∷ [])) (f name head)
-same-names table x name (m ∷ ms) f =
-    name-once table name (m ∷ ms) (subst (λ (r : ℕ). In r (m ∷ ms)) (f m (tail head) ∙ sym (f name head)) head)
-    ∙ same-names table x m ms (λ r i. f r (tail i))
+same-names table x name names f =
+    same-members table (name ∷ names) (x ∷ [])
+    (λ r i. subst (λ (k : ℕ). In r (k ∷ [])) (f r i) head)
+    (λ r i. in-cons i (λ e. subst (λ (k : ℕ). In k (name ∷ names)) (f name head ∙ e) head) in-nil)
 
 -- OF A CALL THAT NAMES ONE NODE, with low at most high, the cover's interval is the node's
 pub one-name : (n : ℕ) (table : List ℕ) (x : ℕ) → x < n → lowAt table x ≤ highAt table x → intervalAt table (coverOf n table (x ∷ [])) ≡ intervalAt table x

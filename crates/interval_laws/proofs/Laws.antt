@@ -17,6 +17,7 @@ use Rattle.intervals.specs.Numbering.{numbering}
 use Rattle.intervals.specs.Intervals.{lowOf, highOf, intervalsFrom, intervalTable}
 use Rattle.intervals.specs.Cover.{lowAt, highAt, callInterval}
 use Rattle.intervals.specs.Build.{buildShort, buildRefusal, buildStep}
+use Rattle.intervals.specs.declared.Interval.{Interval}
 use Rattle.lists.proofs.Bools.{or-left, or-right, not-both}
 use Rattle.lists.proofs.Refusals.{refused-later, refusal-none}
 use Rattle.lists.proofs.Members.{In, head, tail, in-nil, in-cons, least-most, least-is, greatest-least, greatest-is}
@@ -82,25 +83,53 @@ in-map : (f : ℕ → ℕ) (r : ℕ) (names : List ℕ) → In r names → In (f
 in-map f r [] i = in-nil i
 in-map f r (q ∷ names) i = in-cons i (λ e. subst (λ (k : ℕ). In (f r) (k ∷ map f names)) (ap f (sym e)) head) (λ j. tail (in-map f r names j))
 
--- a name given twice counts once: the call's interval is the same
-pub name-once : (table : List ℕ) (r : ℕ) (names : List ℕ) → In r names → callInterval table (r ∷ names) ≡ callInterval table names
-name-once table r names i =
-    let low : least (map (lowAt table) (r ∷ names)) ≡ least (map (lowAt table) names) =
-    let ls = map (lowAt table) names in
-    let j = in-map (lowAt table) r names i in
-    let a : least (lowAt table r ∷ ls) ≤ least ls = least-is (λ k. least (lowAt table r ∷ ls) ≤ k) (lowAt table r) ls j (λ y m. least-most y (lowAt table r ∷ ls) (tail m)) in
-    let b : least ls ≤ least (lowAt table r ∷ ls)
-    = least-is (λ k. least ls ≤ k) (lowAt table r) (lowAt table r ∷ ls) head (λ y m. in-cons m (λ e. subst (λ (k : ℕ). least ls ≤ k) e (least-most (lowAt table r) ls j)) (least-most y ls)) in
-    omega arith in
-    let high : greatest (map (highAt table) (r ∷ names)) ≡ greatest (map (highAt table) names) =
-    let hs = map (highAt table) names in
-    let j = in-map (highAt table) r names i in
-    let a : greatest hs ≤ greatest (highAt table r ∷ hs) = greatest-is (λ k. k ≤ greatest (highAt table r ∷ hs)) (highAt table r) hs j (λ y m. greatest-least y (highAt table r ∷ hs) (tail m)) in
-    let b : greatest (highAt table r ∷ hs) ≤ greatest hs
-    = greatest-is (λ k. k ≤ greatest hs) (highAt table r) (highAt table r ∷ hs) head
-    (λ y m. in-cons m (λ e. subst (λ (k : ℕ). k ≤ greatest hs) e (greatest-least (highAt table r) hs j)) (greatest-least y hs)) in
-    omega arith in
-    rw (low, high)
+-- THE BOUNDS OF A CALL (02, point 3): the least low and the greatest high of its names, at most the low of each and the low of one of them, at least the
+-- high of each and the high of one
+pub record Bounds (table names : List ℕ) (call : Interval) : Type 0 where
+  pub low-each : (r : ℕ) → In r names → call .low ≤ lowAt table r
+  pub low-one : (r : ℕ) × In r names × (lowAt table r ≡ call .low)
+  pub high-each : (r : ℕ) → In r names → highAt table r ≤ call .high
+  pub high-one : (r : ℕ) × In r names × (highAt table r ≡ call .high)
+
+module _ (table : List ℕ) where
+  -- the call's interval has them,
+  pub call-bounds : (names : List ℕ) → 1 ≤ length names → Bounds table names (callInterval table names)
+  call-bounds [] h = absurd (omega arith)
+  call-bounds (x ∷ xs) h =
+      let names : List ℕ = x ∷ xs in
+      let lows = map (lowAt table) names in
+      let highs = map (highAt table) names in
+      let low-of : ℕ → Type 0 = λ k. (r : ℕ) × In r names × (lowAt table r ≡ k) in
+      let high-of : ℕ → Type 0 = λ k. (r : ℕ) × In r names × (highAt table r ≡ k) in
+      record {
+        low-each = λ r i. least-most (lowAt table r) lows (in-map (lowAt table) r names i);
+        low-one = least-is low-of (lowAt table x) lows head (map-is (lowAt table) low-of names (λ r i. (r, i, refl)));
+        high-each = λ r i. greatest-least (highAt table r) highs (in-map (highAt table) r names i);
+        high-one = greatest-is high-of (highAt table x) highs head (map-is (highAt table) high-of names (λ r i. (r, i, refl)));
+      }
+
+  -- and no other interval does, of these names or of others with the same members
+  pub bounds-only : (names others : List ℕ) (call : Interval) → ((r : ℕ) → In r names → In r others) → ((r : ℕ) → In r others → In r names) → Bounds table names call
+      → call ≡ callInterval table others
+  bounds-only names [] call f g b = in-nil (f (b .low-one .0) (b .low-one .1))
+  bounds-only names (x ∷ xs) call f g b =
+      let others : List ℕ = x ∷ xs in
+      let c = call-bounds others (omega arith) in
+      let low : call .low ≡ (callInterval table others) .low
+      = omega (arith, b .low-each (c .low-one .0) (g (c .low-one .0) (c .low-one .1)), c .low-one .2, c .low-each (b .low-one .0) (f (b .low-one .0) (b .low-one .1)), b .low-one .2) in
+      let high : call .high ≡ (callInterval table others) .high
+      = omega (arith, b .high-each (c .high-one .0) (g (c .high-one .0) (c .high-one .1)), c .high-one .2, c .high-each (b .high-one .0) (f (b .high-one .0) (b .high-one .1)), b .high-one .2) in
+      rw (low, high)
+
+  -- so neither the order of the names counts nor how often each is given
+  pub same-members : (names others : List ℕ) → ((r : ℕ) → In r names → In r others) → ((r : ℕ) → In r others → In r names) → callInterval table names ≡ callInterval table others
+  same-members [] [] f g = refl
+  same-members [] (x ∷ xs) f g = in-nil (g x head)
+  same-members (x ∷ xs) others f g = bounds-only (x ∷ xs) others (callInterval table (x ∷ xs)) f g (call-bounds (x ∷ xs) (omega arith))
+
+  -- a name given twice counts once
+  pub name-once : (r : ℕ) (names : List ℕ) → In r names → callInterval table (r ∷ names) ≡ callInterval table names
+  name-once r names i = same-members (r ∷ names) names (λ q j. in-cons j (λ e. subst (λ (k : ℕ). In k names) e i) (λ k. k)) (λ q j. tail j)
 
 module _ (n : ℕ) (table : List ℕ) (edgeCount : ℕ) (legal : Legal n table edgeCount) where
   abbrev es : List ℕ

@@ -1,4 +1,4 @@
--- The narrowest cover, over interval tables of any contents, and the call's interval, widened by one name after another. Assumes nothing.
+-- The narrowest cover, over interval tables of any contents. Assumes nothing.
 use mathlib.Core.Path.{_≡_, refl, sym, ap, _∙_, subst}
 use mathlib.Core.List.{List, [], _∷_, map}
 use mathlib.Core.Bool.{Bool, true, false, not, cond, _&&_, _||_}
@@ -149,27 +149,3 @@ module _ (table : List ℕ) (call : Interval) where
       let q = ltb-false n (length table / 2 + 2) t in
       let e : min n (length table / 2 + 2) ≡ length table / 2 + 2 = omega arith in
       rw e (sym (closest-stays (length table / 2 + 2) n (length table / 2 + 1) (omega arith) (omega arith) q)))
-
--- THE CALL'S INTERVAL: an interval widened to those of the names
-module _ (table : List ℕ) where
-  abbrev pub widened : Interval → List ℕ → Interval
-  widened a names = record { low = foldFrom min (a .low) (map (lowAt table) names); high = foldFrom max (a .high) (map (highAt table) names) }
-
-  pub widened-none : (names : List ℕ) → length names ≡ 0 → callInterval table names ≡ record { low = 0; high = 0 }
-  unfolding least greatest
-  widened-none [] h = refl
-  widened-none (x ∷ xs) h = absurd (omega arith)
-
-  pub widened-start : (names : List ℕ) → 0 < length names → widened (intervalAt table (getD names 0 0)) (drop 1 names) ≡ callInterval table names
-  unfolding least greatest
-  widened-start [] h = absurd (omega arith)
-  widened-start (x ∷ xs) h = refl
-
-  pub widened-next : (names : List ℕ) (i : ℕ) {r : Interval} (a b : Interval) → widened a (drop i names) ≡ r → i < length names → b ≡ intervalAt table (getD names i 0)
-      → widened (record { low = min (a .low) (b .low); high = max (a .high) (b .high) }) (drop (i + 1) names) ≡ r
-  unfolding foldFrom
-  widened-next names i a b inv h at = rw at (rw (drop-step names i 0 refl h) at inv)
-
-  pub widened-end : (names : List ℕ) (i : ℕ) {r : Interval} (a : Interval) → widened a (drop i names) ≡ r → length names ≤ i → a ≡ r
-  unfolding foldFrom
-  widened-end names i a inv h = rw (drop-of-length-le names h) at inv

@@ -8,4 +8,5 @@ pub mod Tables
 pub mod Extremes
 pub mod Writes
 pub mod Builds
+pub mod Bounds
 pub mod Covers

@@ -1,5 +1,6 @@
 // The numbering walk, intervals and building; over an interval table of any contents, the interval of a call and its cover.
 ghost use mathlib.Core.Path.{_≡_};
+ghost use mathlib.Core.List.{List, [], _∷_, _++_};
 ghost use mathlib.Core.Bool.{true, false};
 ghost use Prim.Native.Nat.{ℕ, _+_, _*_, _/_, _<_, _≤_, min, max};
 ghost use lib.ListN.{length, getD, take, replicate};
@@ -278,10 +279,10 @@ pub fn interval_at(intervals: &[u16], node: usize) -> Interval
 fn lesser(x: u16, y: u16) -> u16
     ensures { λ r. ⌜ r ≡ min x y ⌝ }
 {
-    if x <= y {
-        return x;
+    if y < x {
+        return y;
     }
-    y
+    x
 }
 
 // The greater of two numbers.
@@ -294,24 +295,32 @@ pub fn greater(x: u16, y: u16) -> u16
     x
 }
 
-// The call's interval: from the least low to the greatest high of its names.
+// One name more: from the bounds of the names so far and the interval of the next one, the bounds of those names with this one behind them.
+fn one_name_more(bounds: Interval, next: Interval) -> Interval
+    ensures { λ r. ⌜ r ≡ record { low = min (bounds .low) (next .low); high = max (bounds .high) (next .high) } ⌝ }
+    ensures { λ r. ⌜ ((table names : List ℕ) (name : ℕ) → 1 ≤ length names → bounds ≡ callInterval table names → next ≡ intervalAt table name → r ≡ callInterval table (names ++ (name ∷ []))) ⌝ }
+{
+    Interval {
+        low: lesser(bounds.low, next.low),
+        high: greater(bounds.high, next.high),
+    }
+}
+
+// The call's interval, by one pass over the names: the first starts its bounds, and after each name they are those of the names so far.
 pub fn call_interval(intervals: &[u16], names: &[u16]) -> Interval
     ensures { λ r. ⌜ r ≡ callInterval (now (intervals .entry)) (now (names .entry)) ⌝ }
 {
     if names.len() == 0 {
         return Interval { low: 0, high: 0 };
     }
-    let mut call = interval_at(intervals, names[0] as usize);
-    let mut i = 1;
-    while i < names.len() {
-        let next = interval_at(intervals, names[i] as usize);
+    let mut bounds = interval_at(intervals, names[0] as usize);
+    let mut i = 0;
+    while i + 1 < names.len() {
         i += 1;
-        call = Interval {
-            low: lesser(call.low, next.low),
-            high: greater(call.high, next.high),
-        };
+        let next = interval_at(intervals, names[i] as usize);
+        bounds = one_name_more(bounds, next);
     }
-    call
+    bounds
 }
 
 // Whether an interval contains another.

@@ -11,7 +11,7 @@ use native.Mathlib.Nat.{not-suc-le-zero, le-of-suc-le-suc}
 use native.Mathlib.Omega.{arith}
 use borrow.Author.Fill.{fill-more}
 use lib.ListN.{length, getD, take, drop, set, replicate, length-set, drop-of-length-le, length-map}
-use lib.Seq.{drop-cons, drop-length, take-at, length-take-le}
+use lib.Seq.{take-suc, drop-cons, drop-length, take-at, length-take-le}
 use Rattle.lists.specs.Lists.{every, any, count, keep}
 use Rattle.lists.proofs.Bools.{bool}
 
@@ -23,6 +23,10 @@ module _ {A : Type 0} where
   -- the list from place i on, by its first element
   pub drop-step : (l : List A) (i : ℕ) (d : A) {x : A} → getD l i d ≡ x → i < length l → drop i l ≡ x ∷ drop (i + 1) l
   drop-step l i d at h = rw (← at, add-one, drop-cons l i d) refl
+
+  -- the list up to place i and that one, with it last
+  pub take-step : (l : List A) (i : ℕ) (d : A) → i < length l → take (i + 1) l ≡ take i l ++ (getD l i d ∷ [])
+  take-step l i d h = ap (λ (k : ℕ). take k l) (add-one i) ∙ take-suc l i d h
 
   -- within the list no default is read
   pub getD-any : (l : List A) (i : ℕ) (d d′ : A) → i < length l → getD l i d ≡ getD l i d′

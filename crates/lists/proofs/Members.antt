@@ -1,10 +1,11 @@
 -- Members of a list of numbers, the least and the greatest among them. Assumes nothing.
 use mathlib.Core.Path.{_≡_, refl, subst}
-use mathlib.Core.List.{List, [], _∷_}
+use mathlib.Core.List.{List, [], _∷_, _++_}
 use mathlib.Core.Bool.{Bool, true, false}
 use Prim.Native.Nat.{ℕ, _≤_, min, max}
 use native.Mathlib.Omega.{arith}
 use lib.Dec.{leb}
+use lib.ListN.{length}
 use borrow.Author.Tests.{leb-true, leb-false}
 use Rattle.lists.specs.Lists.{keptIf, foldFrom, least, greatest}
 use Rattle.lists.proofs.Bools.{bool}
@@ -84,3 +85,20 @@ pub greatest-is : (P : ℕ → Type 0) (z : ℕ) (xs : List ℕ) → In z xs →
 unfolding greatest
 greatest-is P z [] i f = in-nil i
 greatest-is P z (x ∷ xs) i f = fold-is P max (max-is P) x xs (f x head) (λ y j. f y (tail j))
+
+-- one more behind the list: a fold takes it last,
+fold-more : (f : ℕ → ℕ → ℕ) (x : ℕ) (xs : List ℕ) (y : ℕ) → foldFrom f x (xs ++ (y ∷ [])) ≡ f (foldFrom f x xs) y
+unfolding foldFrom
+fold-more f x [] y = refl
+fold-more f x (z ∷ zs) y = fold-more f (f x z) zs y
+
+-- so the least of some and one more is the less of two, and the greatest the greater
+pub least-more : (xs : List ℕ) (y : ℕ) → 1 ≤ length xs → least (xs ++ (y ∷ [])) ≡ min (least xs) y
+unfolding least
+least-more [] y h = absurd (omega arith)
+least-more (x ∷ xs) y h = fold-more min x xs y
+
+pub greatest-more : (xs : List ℕ) (y : ℕ) → 1 ≤ length xs → greatest (xs ++ (y ∷ [])) ≡ max (greatest xs) y
+unfolding greatest
+greatest-more [] y h = absurd (omega arith)
+greatest-more (x ∷ xs) y h = fold-more max x xs y

@@ -3,13 +3,13 @@ use mathlib.Core.Path.{_≡_, refl, sym, ap, _∙_}
 use mathlib.Core.List.{List, [], _∷_, _++_}
 use mathlib.Core.Bool.{Bool, true, false, not, _||_}
 use Prim.Native.Nat.{ℕ, _+_, _≤_, _<_}
-use native.Mathlib.Numerals.{add-one}
 use native.Mathlib.Omega.{arith}
 use lib.Dec.{eqb, ltb}
 use lib.ListN.{length, getD, take, set, length-set, length-append}
-use lib.Seq.{take-suc, take-all}
+use lib.Seq.{take-all}
 use Rattle.lists.specs.Lists.{keep}
 use Rattle.lists.proofs.Bools.{bool, not-both}
+use Rattle.lists.proofs.Loops.{take-step}
 use Rattle.locks.specs.declared.Lock.{Lock}
 use Rattle.locks.specs.declared.Stage.{Stage}
 use Rattle.locks.specs.declared.Stage.the-variants.{Out, Waiting, Holding}
@@ -125,7 +125,7 @@ module _ (e₀ : List Entry) (l : List ℕ) where
 
       one-more : passed (i + 1) ≡ offer now-at party
       one-more =
-          ap (sweepOf e₀) (ap (λ (j : ℕ). take j l) (add-one i) ∙ take-suc l i 0 h) ∙ sweep-snoc _ (take i l) (getD l i 0) ∙ ap (offer now-at) (sym at-l)
+          ap (sweepOf e₀) (take-step l i 0 h) ∙ sweep-snoc _ (take i l) (getD l i 0) ∙ ap (offer now-at) (sym at-l)
 
       pub passing-goes : (h′ : Stage) → h′ ≡ held s → mayGo entries (take kept stay) s ≡ true
           → Passing (set entries at (entryOf h′)) stay kept (set granted gone party) (gone + 1) (i + 1)

@@ -6,11 +6,12 @@ use mathlib.Core.Logic.{_⊎_}
 use mathlib.Core.List.{List, [], _∷_, _++_, map}
 use mathlib.Core.Bool.{true, false, cond}
 use mathlib.Core.Option.{none}
-use Prim.Native.Nat.{ℕ, _*_, _≤_, _<_, max}
+use Prim.Native.Nat.{ℕ, _*_, _≤_, _<_, min, max}
 use native.Mathlib.Omega.{arith}
 use lib.Dec.{ltb}
 use borrow.Author.Tests.{lt-ltb}
 use lib.ListN.{length, getD, take, replicate}
+use lib.Seq.{length-take-le}
 use Rattle.lists.specs.Lists.{every, any, count, over, Below}
 use Rattle.lists.specs.Answer.{done, refused}
 use Rattle.hierarchy.specs.Hierarchy.{edgesOf, Edge, Reach, reach, Legal}
@@ -47,6 +48,7 @@ use Rattle.needless.specs.Waits.{noWaits, isWaits, reachesMeet, waitsOf}
 use Rattle.needless_laws.specs.Visits.{OneEach}
 use Rattle.lists.proofs.Members.{In}
 use Rattle.interval_laws.proofs.Laws as laws
+use Rattle.intervals.proofs.Bounds as bounds-laws
 use Rattle.intervals.proofs.Covers as closest-laws
 use Rattle.interval_laws.proofs.Covers as cover-laws
 use Rattle.block_laws.proofs.Laws as file-forms
@@ -484,6 +486,36 @@ share-exactly n table edgeCount legal each x y hx hy =
 file-needless : (file : List ℕ) → let rs = recordList (fileRecords file) in
     ((node : ℕ) → node < sizeOf rs → (node ≡ 0 → ⊥) → parentCount (edgesOf (edgeTable rs) (edgeCountOf rs)) node ≡ 1) → OneEach rs → (waitsOf file) .needless ≡ 0
 file-needless file each = let rs = recordList (fileRecords file) in none-needless.file-needless file (tree.each-one (sizeOf rs) (edgesOf (edgeTable rs) (edgeCountOf rs)) each)
+
+-- 02, POINT 3. THE BOUNDS OF A CALL are the least low and the greatest high of its names: at most the low and at least the high of each, the low of one of
+-- them and the high of one
+abbrev Bounds : List ℕ → List ℕ → Interval → Type 0
+Bounds table names b =
+    ((r : ℕ) → In r names → (b .low ≤ lowAt table r) × (highAt table r ≤ b .high))
+    × ((r : ℕ) × In r names × (lowAt table r ≡ b .low)) × ((r : ℕ) × In r names × (highAt table r ≡ b .high))
+
+-- the first name starts them,
+first-name : (table : List ℕ) (name : ℕ) → callInterval table (name ∷ []) ≡ intervalAt table name
+first-name = bounds-laws.first-name
+
+-- one name more keeps the less of the lows and the greater of the highs, whatever names were before it,
+one-name-more : (table names : List ℕ) (name : ℕ) → 1 ≤ length names → let so-far = callInterval table names in
+    callInterval table (names ++ (name ∷ [])) ≡ record { low = min (so-far .low) (lowAt table name); high = max (so-far .high) (highAt table name) }
+one-name-more = bounds-laws.one-name-more
+
+-- so that after each name they are the bounds of the names so far, those of the first k after k names,
+names-so-far : (table names : List ℕ) (k : ℕ) → 1 ≤ k → k ≤ length names → Bounds table (take k names) (callInterval table (take k names))
+names-so-far table names k some most =
+    let b = laws.call-bounds table (take k names) (omega (arith, length-take-le k names most)) in (λ r i. (b .low-each r i, b .high-each r i), b .low-one, b .high-one)
+
+-- which no other two numbers are
+bounds-only : (table names : List ℕ) (b : Interval) → Bounds table names b → b ≡ callInterval table names
+bounds-only table names b (each, low, high) =
+    laws.bounds-only table names names b (λ r i. i) (λ r i. i) (record { low-each = λ r i. each r i .0; low-one = low; high-each = λ r i. each r i .1; high-one = high })
+
+-- the search is given these two and no names: calls with the same bounds have the same cover
+same-bounds : (n : ℕ) (table names others : List ℕ) → callInterval table names ≡ callInterval table others → coverOf n table names ≡ coverOf n table others
+same-bounds n table names others e = ap (closest n table) e
 
 -- THE STARRED CASES, with the papers' figures, those of {8} and of the listing as document 02's point 1 has them: each passes, by computation. Table T and the
 -- table of the ninth case
