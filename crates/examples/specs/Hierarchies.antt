@@ -63,12 +63,15 @@ hierarchies =
     -- past the end of a table stands [0,0], which a call without names has
     ∷ is (coverOf 9 (3 ∷ 4 ∷ 1 ∷ 1 ∷ []) []) 2
     ∷ is (coverOf 9 (3 ∷ 4 ∷ 0 ∷ []) []) 1
-    -- the bounds of a call of T, after each of the names 4, 5, 8, 9, 3: the first starts them, 5 and 8 raise the high, 9 lies inside, 3 lowers the low
-    ∷ are (boundsT (4 ∷ [])) (2 ∷ 2 ∷ [])
-    ∷ are (boundsT (4 ∷ 5 ∷ [])) (2 ∷ 3 ∷ [])
-    ∷ are (boundsT (4 ∷ 5 ∷ 8 ∷ [])) (2 ∷ 4 ∷ [])
-    ∷ are (boundsT (4 ∷ 5 ∷ 8 ∷ 9 ∷ [])) (2 ∷ 4 ∷ [])
-    ∷ are (boundsT (4 ∷ 5 ∷ 8 ∷ 9 ∷ 3 ∷ [])) (1 ∷ 4 ∷ [])
+    -- the bounds of a call of T (02, point 3), after each of the names 8, 6, 9, 1: the first starts them, 6 lowers the low, 9 lies inside, 1 lowers it again;
+    -- and after each of 3, 1, 6, of which 1 and 6 raise the high
+    ∷ are (boundsT (8 ∷ [])) (4 ∷ 4 ∷ [])
+    ∷ are (boundsT (8 ∷ 6 ∷ [])) (3 ∷ 4 ∷ [])
+    ∷ are (boundsT (8 ∷ 6 ∷ 9 ∷ [])) (3 ∷ 4 ∷ [])
+    ∷ are (boundsT (8 ∷ 6 ∷ 9 ∷ 1 ∷ [])) (1 ∷ 4 ∷ [])
+    ∷ are (boundsT (3 ∷ [])) (1 ∷ 1 ∷ [])
+    ∷ are (boundsT (3 ∷ 1 ∷ [])) (1 ∷ 2 ∷ [])
+    ∷ are (boundsT (3 ∷ 1 ∷ 6 ∷ [])) (1 ∷ 4 ∷ [])
     ∷ []
 
 -- intervals of shared children and of cycles, and covers of T

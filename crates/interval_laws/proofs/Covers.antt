@@ -1,22 +1,22 @@
 -- THEOREMS about the cover: over interval tables of any contents, over rooted ones, and over those of every legal hierarchy. Assumes nothing.
 use mathlib.Core.Path.{_≡_, refl, sym, ap, _∙_, subst}
-use mathlib.Core.List.{List, [], _∷_, map}
+use mathlib.Core.List.{List, [], _∷_}
 use mathlib.Core.Bool.{true, false}
 use Prim.Native.Nat.{ℕ, zero, suc, _≤_, _<_}
 use native.Mathlib.Omega.{arith}
 use lib.Dec.{leb}
 use borrow.Author.Tests.{leb-true, le-leb}
-use Rattle.lists.specs.Lists.{foldFrom, least, greatest}
 use Rattle.hierarchy.specs.Hierarchy.{edgesOf, Legal}
 use Rattle.intervals.specs.Intervals.{intervalTable}
 use Rattle.intervals.specs.Cover.{lowAt, highAt, intervalAt, callInterval, contains, width, closest, coverOf, IsCover}
 use Rattle.intervals.specs.declared.Interval.{Interval}
 use Rattle.lists.proofs.Bools.{and-left, and-right, and-both}
-use Rattle.lists.proofs.Members.{In, in-nil, in-cons, head, tail, least-is, greatest-is}
+use Rattle.lists.proofs.Members.{In, in-nil, in-cons, head}
 use Rattle.hierarchy.proofs.Legals.{promised}
+use Rattle.intervals.proofs.Bounds.{first-name}
 use Rattle.intervals.proofs.Covers.{closest-cover}
 use Rattle.interval_laws.specs.Covers.{Rooted}
-use Rattle.interval_laws.proofs.Laws.{map-is, same-members, built-low, built-high, interval-real, interval-inside-root}
+use Rattle.interval_laws.proofs.Laws.{call-bounds, same-members, built-low, built-high, interval-real, interval-inside-root}
 
 -- the test of containment, by its ends
 pub contains-ends : (a b : Interval) → contains a b ≡ true → (a .low ≤ b .low) × (b .high ≤ a .high)
@@ -43,6 +43,10 @@ unfolding closest
 closest-none zero table call f = refl
 closest-none (suc k) table call f = rw (f k (omega arith)) (closest-none k table call (λ r h. f r (omega arith)))
 
+-- THE SEARCH is given a call's bounds and no names (02, point 3): over one table and n, calls with the same bounds have the same cover
+pub same-bounds : (n : ℕ) (table names others : List ℕ) → callInterval table names ≡ callInterval table others → coverOf n table names ≡ coverOf n table others
+same-bounds n table names others e = ap (closest n table) e
+
 -- a call that names one node, however often, has the call's interval of the one name
 pub same-names : (table : List ℕ) (x name : ℕ) (names : List ℕ) → ((r : ℕ) → In r (name ∷ names) → r ≡ x) → callInterval table (name ∷ names) ≡ callInterval table (x ∷ [])
 same-names table x name names f =
@@ -52,15 +56,14 @@ same-names table x name names f =
 
 -- OF A CALL THAT NAMES ONE NODE, with low at most high, the cover's interval is the node's
 pub one-name : (n : ℕ) (table : List ℕ) (x : ℕ) → x < n → lowAt table x ≤ highAt table x → intervalAt table (coverOf n table (x ∷ [])) ≡ intervalAt table x
-unfolding least greatest foldFrom
 one-name n table x h o =
-    let c = coverOf n table (x ∷ []) in
+    let c = closest n table (intervalAt table x) in
     let a = contains-by (intervalAt table x) (intervalAt table x) (omega arith) (omega arith) in
     let k = closest-cover table (intervalAt table x) n x h a in
     let e = contains-ends (intervalAt table c) (intervalAt table x) (k .around) in
     let low : lowAt table c ≡ lowAt table x = omega (arith, e .0, e .1, k .narrowest x h a) in
     let high : highAt table c ≡ highAt table x = omega (arith, e .0, e .1, k .narrowest x h a) in
-    rw (low, high)
+    rw (first-name table x, low, high)
 
 -- however often it names it
 pub one-name-again : (n : ℕ) (table : List ℕ) (x name : ℕ) (names : List ℕ) → x < n → lowAt table x ≤ highAt table x → ((r : ℕ) → In r (name ∷ names) → r ≡ x)
@@ -72,11 +75,12 @@ module _ (n : ℕ) (table : List ℕ) (rooted : Rooted n table) (name : ℕ) (na
   -- the root's interval contains that of every call of nodes, so some node's does,
   pub root-contains : contains (intervalAt table 0) (callInterval table (name ∷ names)) ≡ true
   root-contains =
+      let b = call-bounds table (name ∷ names) (omega arith) in
       let inside : (r : ℕ) → In r (name ∷ names) → (lowAt table 0 ≤ lowAt table r) × (highAt table r ≤ highAt table 0)
       = λ r i. contains-ends (intervalAt table 0) (intervalAt table r) (rooted .in-root r (below r i)) in
       contains-by (intervalAt table 0) (callInterval table (name ∷ names))
-      (least-is (λ k. lowAt table 0 ≤ k) (lowAt table name) (map (lowAt table) (name ∷ names)) head (map-is (lowAt table) (λ k. lowAt table 0 ≤ k) (name ∷ names) (λ r i. inside r i .0)))
-      (greatest-is (λ k. k ≤ highAt table 0) (highAt table name) (map (highAt table) (name ∷ names)) head (map-is (highAt table) (λ k. k ≤ highAt table 0) (name ∷ names) (λ r i. inside r i .1)))
+      (omega (arith, inside (b .low-one .0) (b .low-one .1) .0, b .low-one .2))
+      (omega (arith, inside (b .high-one .0) (b .high-one .1) .1, b .high-one .2))
 
   -- and the definition gives the cover
   pub cover-is : IsCover n table (callInterval table (name ∷ names)) (coverOf n table (name ∷ names))

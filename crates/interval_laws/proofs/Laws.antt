@@ -1,21 +1,21 @@
 -- THEOREMS, for every legal hierarchy. Least and greatest number are over the reach as a relation of paths. Assumes nothing.
 use mathlib.Core.Path.{_≡_, refl, sym, ap, _∙_, subst}
-use mathlib.Core.List.{List, [], _∷_, _++_, map}
+use mathlib.Core.List.{List, [], _∷_, _++_, map, append-nil, append-assoc}
 use mathlib.Core.Bool.{true, _||_}
 use mathlib.Core.Option.{Option, none, some}
 use Prim.Native.Nat.{ℕ, zero, suc, _+_, _*_, _≤_, _<_}
 use native.Mathlib.Omega.{arith}
 use lib.Dec.{ltb}
-use lib.ListN.{length, getD, take, drop}
+use lib.ListN.{length, getD, take, drop, length-append}
 use lib.Seq.{take-append-seam}
 use borrow.Author.Tests.{ltb-false}
-use Rattle.lists.specs.Lists.{least, greatest, over}
+use Rattle.lists.specs.Lists.{over}
 use Rattle.lists.specs.Answer.{Answer, done, _when_, answerOf, roomAfter}
 use Rattle.hierarchy.specs.Hierarchy.{edgesOf, Edge, Reach, reach, hierarchyChecks, Legal}
 use Rattle.hierarchy.specs.Hierarchy.Reach.{self, step}
 use Rattle.intervals.specs.Numbering.{numbering}
 use Rattle.intervals.specs.Intervals.{lowOf, highOf, intervalsFrom, intervalTable}
-use Rattle.intervals.specs.Cover.{lowAt, highAt, callInterval}
+use Rattle.intervals.specs.Cover.{lowAt, highAt, intervalAt, callInterval}
 use Rattle.intervals.specs.Build.{buildShort, buildRefusal, buildStep}
 use Rattle.intervals.specs.declared.Interval.{Interval}
 use Rattle.lists.proofs.Bools.{or-left, or-right, not-both}
@@ -24,6 +24,8 @@ use Rattle.lists.proofs.Members.{In, head, tail, in-nil, in-cons, least-most, l
 use Rattle.hierarchy.proofs.Reaches.{onto, reach-all, reach-only, reach-within}
 use Rattle.hierarchy.proofs.Legals.{Promise, promised}
 use Rattle.intervals.proofs.Extremes.{reach-numbered as numbered-in, low-most as least-low, low-is as least-is-low, high-least as greatest-high, high-is as greatest-is-high}
+use Rattle.interval_laws.specs.Covers.{running}
+use Rattle.intervals.proofs.Bounds.{first-name, one-name-more}
 use Rattle.interval_laws.proofs.Numbers.{numbering-most, numbering-once}
 
 -- an interval of numbers from 1 to n
@@ -75,7 +77,7 @@ unfolding intervalTable
 built-high n es node h = let e : 0 + node ≡ node = omega arith in table-at n es n 0 node h .1 ∙ ap (highOf n es) e
 
 -- what holds of the image of each holds of all that is mapped to
-pub map-is : (f : ℕ → ℕ) (P : ℕ → Type 0) (names : List ℕ) → ((r : ℕ) → In r names → P (f r)) → (y : ℕ) → In y (map f names) → P y
+map-is : (f : ℕ → ℕ) (P : ℕ → Type 0) (names : List ℕ) → ((r : ℕ) → In r names → P (f r)) → (y : ℕ) → In y (map f names) → P y
 map-is f P [] g y i = in-nil i
 map-is f P (r ∷ rs) g y i = in-cons i (λ e. subst P e (g r head)) (map-is f P rs (λ q j. g q (tail j)) y)
 
@@ -126,6 +128,22 @@ module _ (table : List ℕ) where
   same-members [] [] f g = refl
   same-members [] (x ∷ xs) f g = in-nil (g x head)
   same-members (x ∷ xs) others f g = bounds-only (x ∷ xs) others (callInterval table (x ∷ xs)) f g (call-bounds (x ∷ xs) (omega arith))
+
+  -- THE RUNNING VALUES: the bounds of some names, taken on from name to name, are those of these names and all behind them,
+  running-is : (before names : List ℕ) → 1 ≤ length before → running table (callInterval table before) names ≡ callInterval table (before ++ names)
+  unfolding running
+  running-is before [] h = ap (callInterval table) (sym (append-nil before))
+  running-is before (x ∷ xs) h =
+      ap (λ (b : Interval). running table b xs) (sym (one-name-more table before x h))
+      ∙ running-is (before ++ (x ∷ [])) xs (omega (arith, length-append before (x ∷ [])))
+      ∙ ap (callInterval table) (append-assoc before (x ∷ []) xs)
+
+  -- so that, started with the first name's interval, they are after each name the bounds of the names so far: after k names behind the first, for each k
+  pub names-so-far : (name : ℕ) (names : List ℕ) (k : ℕ) → Bounds table (name ∷ take k names) (running table (intervalAt table name) (take k names))
+  names-so-far name names k =
+      subst (Bounds table (name ∷ take k names))
+      (sym (ap (λ (b : Interval). running table b (take k names)) (sym (first-name table name)) ∙ running-is (name ∷ []) (take k names) (omega arith)))
+      (call-bounds (name ∷ take k names) (omega arith))
 
   -- a name given twice counts once
   pub name-once : (r : ℕ) (names : List ℕ) → In r names → callInterval table (r ∷ names) ≡ callInterval table names

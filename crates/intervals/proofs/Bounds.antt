@@ -6,9 +6,8 @@ use native.Mathlib.Omega.{arith}
 use lib.ListN.{length, getD, take, length-map}
 use lib.Seq.{take-all}
 use Rattle.lists.specs.Lists.{foldFrom, least, greatest}
-use Rattle.lists.proofs.Members.{least-more, greatest-more}
+use Rattle.lists.proofs.Members.{least-snoc, greatest-snoc}
 use Rattle.intervals.specs.Cover.{lowAt, highAt, intervalAt, callInterval}
-use Rattle.intervals.specs.declared.Interval.{Interval}
 
 module _ (table : List ℕ) where
   -- without a name
@@ -30,8 +29,8 @@ module _ (table : List ℕ) where
       rw (
         map-append (lowAt table) names (name ∷ []),
         map-append (highAt table) names (name ∷ []),
-        least-more (map (lowAt table) names) (lowAt table name) (omega (arith, length-map names (lowAt table))),
-        greatest-more (map (highAt table) names) (highAt table name) (omega (arith, length-map names (highAt table))),
+        least-snoc (map (lowAt table) names) (lowAt table name) (omega (arith, length-map names (lowAt table))),
+        greatest-snoc (map (highAt table) names) (highAt table name) (omega (arith, length-map names (highAt table))),
       )
 
   -- THE PASS: after the first name they are those of one name, after the last those of all

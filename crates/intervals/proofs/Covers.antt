@@ -1,19 +1,17 @@
 -- The narrowest cover, over interval tables of any contents. Assumes nothing.
 use mathlib.Core.Path.{_≡_, refl, sym, ap, _∙_, subst}
-use mathlib.Core.List.{List, [], _∷_, map}
+use mathlib.Core.List.{List}
 use mathlib.Core.Bool.{Bool, true, false, not, cond, _&&_, _||_}
-use Prim.Native.Nat.{ℕ, zero, suc, _+_, _-_, _*_, _/_, _≤_, _<_, min, max}
+use Prim.Native.Nat.{ℕ, zero, suc, _+_, _-_, _*_, _/_, _≤_, _<_, min}
 use native.Mathlib.Numerals.{add-one}
 use native.Mathlib.Omega.{arith}
 use lib.Dec.{ltb}
-use lib.ListN.{length, getD, drop, drop-of-length-le, List·getD-eq-default}
+use lib.ListN.{length, getD, List·getD-eq-default}
 use borrow.Author.Tests.{ltb-true, ltb-false, not-true}
-use Rattle.lists.specs.Lists.{foldFrom, least, greatest}
-use Rattle.intervals.specs.Cover.{lowAt, highAt, intervalAt, callInterval, contains, width, closer, closerOf, closest, IsCover}
+use Rattle.intervals.specs.Cover.{intervalAt, contains, width, closer, closerOf, closest, IsCover}
 use Rattle.intervals.specs.declared.Interval.{Interval}
 use Rattle.lists.proofs.Bools.{bool, not-both, and-left, and-right, or-either}
 use Rattle.lists.proofs.Bounded.{below-more}
-use Rattle.lists.proofs.Loops.{drop-step}
 
 module _ (table : List ℕ) (call : Interval) where
   abbrev around : ℕ → Bool

@@ -87,18 +87,18 @@ greatest-is P z [] i f = in-nil i
 greatest-is P z (x ∷ xs) i f = fold-is P max (max-is P) x xs (f x head) (λ y j. f y (tail j))
 
 -- one more behind the list: a fold takes it last,
-fold-more : (f : ℕ → ℕ → ℕ) (x : ℕ) (xs : List ℕ) (y : ℕ) → foldFrom f x (xs ++ (y ∷ [])) ≡ f (foldFrom f x xs) y
+fold-snoc : (f : ℕ → ℕ → ℕ) (x : ℕ) (xs : List ℕ) (y : ℕ) → foldFrom f x (xs ++ (y ∷ [])) ≡ f (foldFrom f x xs) y
 unfolding foldFrom
-fold-more f x [] y = refl
-fold-more f x (z ∷ zs) y = fold-more f (f x z) zs y
+fold-snoc f x [] y = refl
+fold-snoc f x (z ∷ zs) y = fold-snoc f (f x z) zs y
 
 -- so the least of some and one more is the less of two, and the greatest the greater
-pub least-more : (xs : List ℕ) (y : ℕ) → 1 ≤ length xs → least (xs ++ (y ∷ [])) ≡ min (least xs) y
+pub least-snoc : (xs : List ℕ) (y : ℕ) → 1 ≤ length xs → least (xs ++ (y ∷ [])) ≡ min (least xs) y
 unfolding least
-least-more [] y h = absurd (omega arith)
-least-more (x ∷ xs) y h = fold-more min x xs y
+least-snoc [] y h = absurd (omega arith)
+least-snoc (x ∷ xs) y h = fold-snoc min x xs y
 
-pub greatest-more : (xs : List ℕ) (y : ℕ) → 1 ≤ length xs → greatest (xs ++ (y ∷ [])) ≡ max (greatest xs) y
+pub greatest-snoc : (xs : List ℕ) (y : ℕ) → 1 ≤ length xs → greatest (xs ++ (y ∷ [])) ≡ max (greatest xs) y
 unfolding greatest
-greatest-more [] y h = absurd (omega arith)
-greatest-more (x ∷ xs) y h = fold-more max x xs y
+greatest-snoc [] y h = absurd (omega arith)
+greatest-snoc (x ∷ xs) y h = fold-snoc max x xs y

@@ -11,7 +11,6 @@ use native.Mathlib.Omega.{arith}
 use lib.Dec.{ltb}
 use borrow.Author.Tests.{lt-ltb}
 use lib.ListN.{length, getD, take, replicate}
-use lib.Seq.{length-take-le}
 use Rattle.lists.specs.Lists.{every, any, count, over, Below}
 use Rattle.lists.specs.Answer.{done, refused}
 use Rattle.hierarchy.specs.Hierarchy.{edgesOf, Edge, Reach, reach, Legal}
@@ -41,6 +40,7 @@ use Rattle.replay.specs.Replay.{performAll, runFile}
 use Rattle.blocks.specs.File.{fileRecords}
 use Rattle.examples.specs.Cases.{intervals, cover, apart, listing, passes}
 use Rattle.examples.specs.Table.{T, shared, bytes16, fileT, fileShared, starred}
+use Rattle.interval_laws.specs.Covers.{running}
 use Rattle.trees.specs.Tree.{parentCount}
 use Rattle.reach_sets.specs.Sets.{has, setAt, setTable}
 use Rattle.reach_sets.specs.Plain.{plainStep}
@@ -503,19 +503,19 @@ one-name-more : (table names : List ℕ) (name : ℕ) → 1 ≤ length names →
     callInterval table (names ++ (name ∷ [])) ≡ record { low = min (so-far .low) (lowAt table name); high = max (so-far .high) (highAt table name) }
 one-name-more = bounds-laws.one-name-more
 
--- so that after each name they are the bounds of the names so far, those of the first k after k names,
-names-so-far : (table names : List ℕ) (k : ℕ) → 1 ≤ k → k ≤ length names → Bounds table (take k names) (callInterval table (take k names))
-names-so-far table names k some most =
-    let b = laws.call-bounds table (take k names) (omega (arith, length-take-le k names most)) in (λ r i. (b .low-each r i, b .high-each r i), b .low-one, b .high-one)
+-- so that the running values, started with the first name's interval, are after each name the bounds of the names so far: after k names behind the first, for
+-- each k,
+names-so-far : (table : List ℕ) (name : ℕ) (names : List ℕ) (k : ℕ) → Bounds table (name ∷ take k names) (running table (intervalAt table name) (take k names))
+names-so-far table name names k = let b = laws.names-so-far table name names k in (λ r i. (b .low-each r i, b .high-each r i), b .low-one, b .high-one)
 
 -- which no other two numbers are
 bounds-only : (table names : List ℕ) (b : Interval) → Bounds table names b → b ≡ callInterval table names
 bounds-only table names b (each, low, high) =
     laws.bounds-only table names names b (λ r i. i) (λ r i. i) (record { low-each = λ r i. each r i .0; low-one = low; high-each = λ r i. each r i .1; high-one = high })
 
--- the search is given these two and no names: calls with the same bounds have the same cover
+-- the search hangs on no name but by them: over one table and n, calls with the same bounds have the same cover
 same-bounds : (n : ℕ) (table names others : List ℕ) → callInterval table names ≡ callInterval table others → coverOf n table names ≡ coverOf n table others
-same-bounds n table names others e = ap (closest n table) e
+same-bounds = cover-laws.same-bounds
 
 -- THE STARRED CASES, with the papers' figures, those of {8} and of the listing as document 02's point 1 has them: each passes, by computation. Table T and the
 -- table of the ninth case
