@@ -1,4 +1,4 @@
--- BUILDING AND COVERS beyond the edges: every figure is what the definitions give, by computation. Assumes nothing.
+-- BUILDING, COVERS AND BOUNDS beyond the edges: every figure is what the definitions give, by computation. Assumes nothing.
 use mathlib.Core.Path.{_≡_, refl}
 use mathlib.Core.Bool.{true}
 use Rattle.lists.specs.Lists.{every, any, over, foldFrom, least, greatest}

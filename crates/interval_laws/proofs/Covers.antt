@@ -68,7 +68,7 @@ one-name n table x h o =
 -- however often it names it
 pub one-name-again : (n : ℕ) (table : List ℕ) (x name : ℕ) (names : List ℕ) → x < n → lowAt table x ≤ highAt table x → ((r : ℕ) → In r (name ∷ names) → r ≡ x)
     → intervalAt table (coverOf n table (name ∷ names)) ≡ intervalAt table x
-one-name-again n table x name names h o same = ap (λ (call : Interval). intervalAt table (closest n table call)) (same-names table x name names same) ∙ one-name n table x h o
+one-name-again n table x name names h o same = ap (intervalAt table) (same-bounds n table (name ∷ names) (x ∷ []) (same-names table x name names same)) ∙ one-name n table x h o
 
 -- OVER ROOTED TABLES
 module _ (n : ℕ) (table : List ℕ) (rooted : Rooted n table) (name : ℕ) (names : List ℕ) (below : (r : ℕ) → In r (name ∷ names) → r < n) where

@@ -1,13 +1,14 @@
--- THEOREMS, for every legal hierarchy. Least and greatest number are over the reach as a relation of paths. Assumes nothing.
+-- THEOREMS: the bounds of a call, over any table; then what holds of every legal hierarchy. Least and greatest number are over the reach as a relation of
+-- paths. Assumes nothing.
 use mathlib.Core.Path.{_≡_, refl, sym, ap, _∙_, subst}
-use mathlib.Core.List.{List, [], _∷_, _++_, map, append-nil, append-assoc}
+use mathlib.Core.List.{List, [], _∷_, _++_, map, append-nil}
 use mathlib.Core.Bool.{true, _||_}
 use mathlib.Core.Option.{Option, none, some}
 use Prim.Native.Nat.{ℕ, zero, suc, _+_, _*_, _≤_, _<_}
 use native.Mathlib.Omega.{arith}
 use lib.Dec.{ltb}
 use lib.ListN.{length, getD, take, drop, length-append}
-use lib.Seq.{take-append-seam}
+use lib.Seq.{take-append-seam, append-snoc}
 use borrow.Author.Tests.{ltb-false}
 use Rattle.lists.specs.Lists.{over}
 use Rattle.lists.specs.Answer.{Answer, done, _when_, answerOf, roomAfter}
@@ -136,7 +137,7 @@ module _ (table : List ℕ) where
   running-is before (x ∷ xs) h =
       ap (λ (b : Interval). running table b xs) (sym (one-name-more table before x h))
       ∙ running-is (before ++ (x ∷ [])) xs (omega (arith, length-append before (x ∷ [])))
-      ∙ ap (callInterval table) (append-assoc before (x ∷ []) xs)
+      ∙ ap (callInterval table) (append-snoc before x xs)
 
   -- so that, started with the first name's interval, they are after each name the bounds of the names so far: after k names behind the first, for each k
   pub names-so-far : (name : ℕ) (names : List ℕ) (k : ℕ) → Bounds table (name ∷ take k names) (running table (intervalAt table name) (take k names))

@@ -1,5 +1,5 @@
--- What every legal hierarchy promises, and what holds of the cover over any table: Laws and Covers have the theorems, Numbers what they rest on of the
--- numbering.
+-- What every legal hierarchy promises, and what holds of bounds and cover of a call over any table: Laws and Covers have the theorems, Numbers what they
+-- rest on of the numbering.
 pub mod Numbers
 pub mod Laws
 pub mod Covers

@@ -1,13 +1,13 @@
 -- The bounds of a call, kept from name to name (02, point 3), over interval tables of any contents. Assumes nothing.
 use mathlib.Core.Path.{_≡_, refl, sym, ap}
 use mathlib.Core.List.{List, [], _∷_, _++_, map, map-append}
-use Prim.Native.Nat.{ℕ, _+_, _≤_, _<_, min, max}
+use Prim.Native.Nat.{ℕ, _+_, _≤_, _<_}
 use native.Mathlib.Omega.{arith}
 use lib.ListN.{length, getD, take, length-map}
 use lib.Seq.{take-all}
 use Rattle.lists.specs.Lists.{foldFrom, least, greatest}
 use Rattle.lists.proofs.Members.{least-snoc, greatest-snoc}
-use Rattle.intervals.specs.Cover.{lowAt, highAt, intervalAt, callInterval}
+use Rattle.intervals.specs.Cover.{lowAt, highAt, intervalAt, callInterval, oneMore}
 
 module _ (table : List ℕ) where
   -- without a name
@@ -21,10 +21,9 @@ module _ (table : List ℕ) where
   unfolding least greatest foldFrom
   first-name name = refl
 
-  -- and those of some names and one more have the less of the lows and the greater of the highs
+  -- and one name more, behind some, takes them on
   pub one-name-more : (names : List ℕ) (name : ℕ) → 1 ≤ length names
-      → callInterval table (names ++ (name ∷ []))
-      ≡ record { low = min ((callInterval table names) .low) (lowAt table name); high = max ((callInterval table names) .high) (highAt table name) }
+      → callInterval table (names ++ (name ∷ [])) ≡ oneMore (callInterval table names) (intervalAt table name)
   one-name-more names name h =
       rw (
         map-append (lowAt table) names (name ∷ []),

@@ -1,8 +1,8 @@
--- The call's interval (01) and its cover (02, point 1), over an interval table of any contents. Assumes nothing.
+-- The call's interval (01), its cover (02, point 1) and one name more (02, point 3), over an interval table of any contents. Assumes nothing.
 use mathlib.Core.Path.{_≡_}
 use mathlib.Core.List.{List, map}
 use mathlib.Core.Bool.{Bool, true, not, cond, _&&_, _||_}
-use Prim.Native.Nat.{ℕ, zero, suc, _+_, _-_, _*_, _≤_, _<_}
+use Prim.Native.Nat.{ℕ, zero, suc, _+_, _-_, _*_, _≤_, _<_, min, max}
 use lib.Dec.{leb, ltb}
 use lib.ListN.{getD}
 use Rattle.lists.specs.Lists.{least, greatest}
@@ -23,6 +23,10 @@ intervalAt table node = record { low = lowAt table node; high = highAt table nod
 -- the call's interval runs from the least low to the greatest high of its named nodes. Without a name, which enter refuses, it is from 0 to 0
 abbrev pub callInterval : List ℕ → List ℕ → Interval
 callInterval table names = record { low = least (map (lowAt table) names); high = greatest (map (highAt table) names) }
+
+-- the two running values after one name more, from those before it and its interval (02, point 3): the less of the lows and the greater of the highs
+abbrev pub oneMore : Interval → Interval → Interval
+oneMore bounds next = record { low = min (bounds .low) (next .low); high = max (bounds .high) (next .high) }
 
 -- an interval contains another; containment includes equal ends
 abbrev pub contains : Interval → Interval → Bool

@@ -9,7 +9,7 @@ ghost use Rattle.hierarchy.specs.Hierarchy.{edgesOf};
 ghost use Rattle.intervals.specs.Numbering.{at as walkAt, walk as walked, numbering};
 ghost use Rattle.intervals.specs.Intervals.{intervalTable};
 ghost use Rattle.intervals.specs.Build.{buildStep, buildMeaning, numbersStep};
-ghost use Rattle.intervals.specs.Cover.{intervalAt, callInterval, contains as containing, width as widthOf, closer as isCloser, closest as closestOf, coverOf};
+ghost use Rattle.intervals.specs.Cover.{intervalAt, callInterval, oneMore, contains as containing, width as widthOf, closer as isCloser, closest as closestOf, coverOf};
 ghost use Rattle.hierarchy.specs.Inner.{Edges};
 ghost use Rattle.intervals.specs.Inner.{Ready, Fresh, isBetter, improved, turnAt, Kept, Settled, Best, lows, highs, tableWeight, orMost, doubled, Writable};
 
@@ -297,7 +297,7 @@ pub fn greater(x: u16, y: u16) -> u16
 
 // One name more: from the bounds of the names so far and the interval of the next one, the bounds of those names with this one behind them.
 fn one_name_more(bounds: Interval, next: Interval) -> Interval
-    ensures { λ r. ⌜ r ≡ record { low = min (bounds .low) (next .low); high = max (bounds .high) (next .high) } ⌝ }
+    ensures { λ r. ⌜ r ≡ oneMore bounds next ⌝ }
     ensures { λ r. ⌜ ((table names : List ℕ) (name : ℕ) → 1 ≤ length names → bounds ≡ callInterval table names → next ≡ intervalAt table name → r ≡ callInterval table (names ++ (name ∷ []))) ⌝ }
 {
     Interval {

@@ -1,6 +1,7 @@
 -- The turns of a loop over a list. A loop that goes through a list l from place 0 keeps, with what is left, `f (drop i l)`, equal to a result r that
 -- does not change. Each lemma takes that equation to the next place, or to the end. The element that the turn read is x, by `getD l i d ≡ x`: `refl`
--- where the loop reads l itself, and `getD-take k l i d h` where the loop is over `take k l` and reads l.
+-- where the loop reads l itself, and `getD-take k l i d h` where the loop is over `take k l` and reads l. A loop that keeps what is done, `f (take i l)`, goes
+-- on by `take-step`.
 -- Assumes nothing.
 use mathlib.Core.Path.{_≡_, refl, sym, ap, _∙_}
 use mathlib.Core.List.{List, [], _∷_, _++_, map, append-nil}

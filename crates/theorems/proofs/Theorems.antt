@@ -498,7 +498,7 @@ Bounds table names b =
 first-name : (table : List ℕ) (name : ℕ) → callInterval table (name ∷ []) ≡ intervalAt table name
 first-name = bounds-laws.first-name
 
--- one name more keeps the less of the lows and the greater of the highs, whatever names were before it,
+-- one name more, behind at least one, leaves the less of the lows and the greater of the highs,
 one-name-more : (table names : List ℕ) (name : ℕ) → 1 ≤ length names → let so-far = callInterval table names in
     callInterval table (names ++ (name ∷ [])) ≡ record { low = min (so-far .low) (lowAt table name); high = max (so-far .high) (highAt table name) }
 one-name-more = bounds-laws.one-name-more
