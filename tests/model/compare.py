@@ -5,7 +5,9 @@
 
 LISTING is the program. It prints the seed, how often each answer and each refusal was seen, and the first difference; it exits 1 where there is
 one, or where a kind of answer that the paper has was never seen, or a cover that was picked by its number from equally narrow records with
-different intervals. --keep writes the file that differs into DIR.
+different intervals, or one of the ways in which a party is granted, or a party that came and was never granted, or a listing with a line
+for each party, or one with none. --keep writes the file that differs into DIR.
+Of each listing the line `end` and those behind it are also worked out from the answers before them.
 Files are valid, of the wrong length, damaged with and without a check that was made right again (in all blocks, or in some), misordered,
 of legal and illegal hierarchies, some with many intervals of one width, and now and then of 128 or 129 blocks; most steps take effect, since
 the generator follows the desk with the model and picks parties and records by it.
@@ -225,12 +227,52 @@ def tied(data, lines):
     return count
 
 
+def behind(lines):
+    """What stands behind the last answer of a listing; all of it where the file was refused."""
+    return lines[sum(line[0].isdigit() for line in lines):]
+
+
+def told(data, lines):
+    """What a listing's answers tell by themselves: how often each party was granted by an enter, how often by a leave, who came, and what must stand
+    behind the last answer (02, point 4: on a line for each party with grants, `party`, its number and its count, lowest party first)."""
+    by_enter, by_leave = collections.Counter(), collections.Counter()
+    came, holding, waiting = set(), set(), set()
+    if lines[0].startswith("refused"):
+        return by_enter, by_leave, came, lines
+    for r, line in zip((r for r in model.read_file(data) if r[0] > 2), lines):
+        answer, *rest = line.split()[1:]
+        if answer == "granted":
+            by_enter[r[1]] += 1
+            holding.add(r[1])
+        elif answer == "waits":
+            waiting.add(r[1])
+        elif answer == "left":
+            freed = list(map(int, rest))
+            by_leave.update(freed)
+            holding = holding - {r[1]} | set(freed)
+            waiting = waiting - {r[1], *freed}
+        came |= holding | waiting
+    both = by_enter + by_leave
+    return by_enter, by_leave, came, [f"end {len(holding)} {len(waiting)} {sum(both.values())}", *(f"party {p} {both[p]}" for p in sorted(both))]
+
+
+PARTIES = ["by a leave", "by leaves alone", "by an enter and by a leave", "several times", "ten times or more", "never, though it came", "with number 0", "with number 31"]
+
+
+def parties(by_enter, by_leave, came):
+    """How many parties of a file were granted in each of these ways."""
+    both = by_enter + by_leave
+    counts = (len(by_leave), len(by_leave.keys() - by_enter), len(by_leave.keys() & by_enter), sum(c > 1 for c in both.values()),
+              sum(c > 9 for c in both.values()), len(came - both.keys()), int(0 in both), int(31 in both))
+    return collections.Counter(dict(zip(PARTIES, counts)))
+
+
 def word(line):
     w = line.split()
-    return " ".join(w) if w[0] == "refused" else "end" if w[0] == "end" else " ".join(w[1:3]) if w[1] == "refused" else w[1]
+    return " ".join(w) if w[0] == "refused" else w[0] if w[0] in ("end", "party") else " ".join(w[1:3]) if w[1] == "refused" else w[1]
 
 
-WANTED = ["granted", "waits", "value", "stored", "left", "end", *(f"refused {k}" for k in (2, 3, 4, 5, 6, 7, 8, 9, 11, 12, 13, 14, 15, 16, 17))]
+WANTED = ["granted", "waits", "value", "stored", "left", "end", "party", *(f"refused {k}" for k in (2, 3, 4, 5, 6, 7, 8, 9, 11, 12, 13, 14, 15, 16, 17))]
 
 
 def run(program, data):
@@ -254,12 +296,16 @@ def main():
         print(f"no such program: {args.listing}")
         return 1
     rnd = random.Random(args.seed)
-    seen, kinds = collections.Counter(), collections.Counter()
-    one_freed = more_freed = ties = 0
+    seen, kinds, who = (collections.Counter() for _ in range(3))
+    one_freed = more_freed = ties = many = none = 0
     for k in range(args.files):
         kind, data = one(rnd)
-        want = "".join(line + "\n" for line in model.listing(data))
+        lines = model.listing(data)
+        want = "".join(line + "\n" for line in lines)
         got, said = run(args.listing, data)
+        by_enter, by_leave, came, end = told(data, lines)
+        if behind(lines) != end:
+            said = f"the model's answers tell another end: {' / '.join(end)}"
         if said or got != want:
             print(f"seed {args.seed}: file {k}, {kind}, {len(data)} bytes: differs" + (f" ({said})" if said else ""))
             pairs = itertools.zip_longest(want.split("\n"), got.split("\n"), fillvalue="nothing")
@@ -271,8 +317,11 @@ def main():
                     f.write(data)
             return 1
         kinds[kind] += 1
-        ties += tied(data, want.splitlines())
-        for line in want.splitlines():
+        ties += tied(data, lines)
+        who += parties(by_enter, by_leave, came)
+        many += len(end) == 33
+        none += end[-1].startswith("end")
+        for line in lines:
             seen[word(line)] += 1
             if " left " in line:
                 one_freed += len(line.split()) == 3
@@ -281,8 +330,10 @@ def main():
     print("files: " + ", ".join(f"{w} {n}" for w, n in sorted(kinds.items())))
     print("lines: " + ", ".join(f"{w} {seen[w]}" for w in WANTED))
     print(f"leaves that granted one waiter {one_freed}, several {more_freed}; covers picked by number from records of different intervals {ties}")
-    missing = [w for w in WANTED if not seen[w]]
-    missing += [w for w, n in (("a leave that grants one", one_freed), ("a leave that grants several", more_freed), ("a cover picked by number from records of different intervals", ties)) if not n]
+    print("parties granted " + ", ".join(f"{w}: {who[w]}" for w in PARTIES) + f"; listings with a line for each party {many}, for none {none}")
+    missing = [w for w in WANTED if not seen[w]] + [f"a party granted {w}" for w in PARTIES if not who[w]]
+    missing += [w for w, n in (("a leave that grants one", one_freed), ("a leave that grants several", more_freed), ("a cover picked by number from records of different intervals", ties),
+                               ("a listing with a line for each party", many), ("a listing with `end` last", none)) if not n]
     if missing:
         print("never seen: " + ", ".join(missing))
         return 1

@@ -1,5 +1,5 @@
 #!/usr/bin/env python3
-"""A plain model of the record desk, written from the papers (document 01, and points 1 and 2 of 02), to compare the programs with.
+"""A plain model of the record desk, written from the papers (document 01, and points 1, 2 and 4 of 02), to compare the programs with.
 
 It shares no code with the project: sets for reach, Python integers for values, a list of parties for the arrival order.
 `listing(data)` gives the lines that the program `listing` must print for the bytes of one file, `waits(data)` the one line of the program `waits`.
@@ -188,7 +188,7 @@ class Desk:
         self.holds = {}
         self.calls = {}
         self.arrival = []
-        self.grants = 0
+        self.grants = [0] * 32
         self.values = [0] * h.n
 
     def conflict(self, a, b):
@@ -198,8 +198,9 @@ class Desk:
         return not before and not behind and not mode_a == mode_b == READING
 
     def grant(self, party, visit):
+        """02, point 4: the desk counts for each of the 32 parties."""
         self.holds[party] = visit
-        self.grants = min(self.grants + 1, 4294967295)
+        self.grants[party] = min(self.grants[party] + 1, 4294967295)
 
     def known(self, party):
         if party > 31:
@@ -286,6 +287,7 @@ def opened(data):
 
 
 def listing(data):
+    """A line for each step, `end` with holders, waiters and the sum of the grants, and a line for each party with grants."""
     try:
         desk, steps = opened(data)
     except Refusal as e:
@@ -296,7 +298,8 @@ def listing(data):
             lines.append(f"{k} {perform(desk, r)}")
         except Refusal as e:
             lines.append(f"{k} refused {e.number}")
-    lines.append(f"end {len(desk.holds)} {len(desk.calls)} {desk.grants}")
+    lines.append(f"end {len(desk.holds)} {len(desk.calls)} {sum(desk.grants)}")
+    lines += [f"party {p} {count}" for p, count in enumerate(desk.grants) if count]
     return lines
 
 

@@ -14,12 +14,13 @@ use Rattle.locks.specs.Lent.{Hierarchy, coverIn, lockOn}
 use Rattle.sweeps.specs.declared.Swept.{Swept}
 use Rattle.sweeps.specs.Sweeps.{Sweeps}
 use Rattle.arrivals.proofs.Queues.{listed-take}
+use Rattle.grants.specs.Grants.{countGrants}
 use Rattle.desk.specs.declared.Desk.{Desk}
 use Rattle.desk.specs.declared.EnterAnswer.the-variants.{Granted, Waits, Refused as EnterRefused}
 use Rattle.desk.specs.declared.GetAnswer.the-variants.{Value, Waiting, Refused as GetRefused}
 use Rattle.desk.specs.declared.PutAnswer.the-variants.{Stored, Refused as PutRefused}
 use Rattle.desk.specs.declared.LeaveAnswer.the-variants.{Left, Refused as LeaveRefused}
-use Rattle.desk.specs.Steps.{granted, putOwn, countGrants, enterRefusal, grantTo, queueLast, free, enterIf, enterUnless, enterStep}
+use Rattle.desk.specs.Steps.{granted, putOwn, enterRefusal, grantTo, queueLast, free, enterIf, enterUnless, enterStep}
 use Rattle.desk.specs.Steps.{valueChecks, getUnless, getStep, putUnless, putStep, afterLeaving, leaveUnless, leaveRefusal, leaveStep}
 use Rattle.desk.specs.Answers.{Enters, Gets, Puts, Leaves}
 use Rattle.desk.specs.Inner.{leftBy}
@@ -96,13 +97,14 @@ module _ (H : Hierarchy) (d : Desk) (party : ℕ) (list : List ℕ) where
       → list′ ≡ over (take (r .granted .count) (r .granted .places)) list → next ≡ leftBy d r
       → Leaves (record { desk = next; answer = Left (r .granted .count) }) list′ (leaveStep H d party list)
   leave-left e r list′ next k few el en =
+      let all = listed-take (r .granted) (afterLeaving d party .granted) (k .granted) few in
       rw (left none e) (
         en ∙ (λ i. record {
           entries = k .entries i;
           queue = k .stay .0 i;
           waiting = k .stay .1 i;
-          grants = countGrants (d .grants) (k .granted .1 i);
+          grants = countGrants (d .grants) (all i);
         }),
         ap done (k .granted .1),
-        el ∙ ap (λ (t : List ℕ). over t list) (listed-take (r .granted) (afterLeaving d party .granted) (k .granted) few),
+        el ∙ ap (λ (t : List ℕ). over t list) all,
       )

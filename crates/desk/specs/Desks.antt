@@ -6,6 +6,7 @@ use Rattle.locks.specs.declared.Stage.{Stage}
 use Rattle.locks.specs.declared.Stage.the-variants.{Out}
 use Rattle.parties.specs.Parties.{entryOf, stageIn}
 use Rattle.arrivals.specs.Arrivals.{listedIn, queuePlaces}
+use Rattle.grants.specs.Grants.{noGrants}
 use Rattle.desk.specs.declared.Desk.{Desk}
 
 -- the stage of a party at the desk
@@ -20,6 +21,6 @@ listedAt d i = listedIn (d .queue) i
 abbrev pub queueOf : Desk → List ℕ
 queueOf d = take (d .waiting) (d .queue)
 
--- a fresh desk has all parties out and count 0
+-- a fresh desk has all parties out and each count 0
 abbrev pub freshDesk : Desk
-freshDesk = record { entries = replicate 32 (entryOf Out); queue = queuePlaces []; waiting = 0; grants = 0 }
+freshDesk = record { entries = replicate 32 (entryOf Out); queue = queuePlaces []; waiting = 0; grants = noGrants }

@@ -7,9 +7,11 @@ use Prim.Native.Nat.{ℕ}
 use lib.Dec.{eqb}
 use Rattle.lists.specs.Answer.{Check, refusal}
 use Rattle.locks.specs.Lent.{Hierarchy}
+use Rattle.arrivals.specs.Arrivals.{listOf}
+use Rattle.grants.specs.Grants.{countGrants}
 use Rattle.sweeps.specs.declared.Swept.{Swept}
 use Rattle.desk.specs.declared.Desk.{Desk}
-use Rattle.desk.specs.Steps.{sizeChecks, countGrants, stepChecks, nodeChecks}
+use Rattle.desk.specs.Steps.{sizeChecks, stepChecks, nodeChecks}
 
 -- what is left to look at where the checks before gave k: 0 says that none of them holds
 abbrev pub refusalAfter : ℕ → Option ℕ → Option ℕ
@@ -29,4 +31,4 @@ NodeJudged H d party node k = (own : List Check) → refusal (nodeChecks H d par
 
 -- the desk as a pass over the waiters has left it
 abbrev pub leftBy : Desk → Swept → Desk
-leftBy d s = record { entries = s .entries; queue = s .stay .places; waiting = s .stay .count; grants = countGrants (d .grants) (s .granted .count) }
+leftBy d s = record { entries = s .entries; queue = s .stay .places; waiting = s .stay .count; grants = countGrants (d .grants) (listOf (s .granted)) }

@@ -3,7 +3,7 @@ use mathlib.Core.Path.{_≡_}
 use mathlib.Core.List.{List, [], _∷_, _++_}
 use mathlib.Core.Bool.{Bool, true, false, not, _||_}
 use mathlib.Core.Option.{Option, none, some}
-use Prim.Native.Nat.{ℕ, _+_, _*_, _≤_, _<_, min}
+use Prim.Native.Nat.{ℕ, _+_, _*_, _≤_, _<_}
 use lib.Dec.{ltb}
 use lib.ListN.{length, getD, set, take}
 use Rattle.lists.specs.Lists.{anyBelow, over}
@@ -16,6 +16,7 @@ use Rattle.locks.specs.Stages.{isOut, isWaiting, readsOnly}
 use Rattle.locks.specs.Lent.{Hierarchy, coverIn, tablesShort, intervalWrong, namesWrong, lockOn, insideLock, insideHold}
 use Rattle.parties.specs.Parties.{entryOf, isFree}
 use Rattle.arrivals.specs.Arrivals.{queuePlaces}
+use Rattle.grants.specs.Grants.{countGrant, countGrants}
 use Rattle.sweeps.specs.Sweeps.{Sweep, leavingOf}
 use Rattle.desk.specs.declared.Desk.{Desk}
 use Rattle.desk.specs.Desks.{stageAt, queueOf}
@@ -56,10 +57,6 @@ pub record StepFacts (H : Hierarchy) (d : Desk) (party : ℕ) (short : Bool) : T
   -- 11: the party is one of 0 to 31
   pub party-below : party < 32
 
--- the desk counts grants; the count stops at 4,294,967,295
-abbrev pub countGrants : ℕ → ℕ → ℕ
-countGrants grants more = min (grants + more) 4294967295
-
 -- ENTER
 
 -- granted with the cover, or waits
@@ -84,10 +81,10 @@ abbrev pub enterRefusal : Hierarchy → Desk → ℕ → List ℕ → ℕ → Op
 enterRefusal H d party names nameCount =
     refusal (stepChecks H d party (ltb (length names) nameCount) (enterOwn H d party names nameCount))
 
--- the party holds the lock, and the grant is counted; behind the arrival list stand zeros
+-- the party holds the lock, and the grant counts for it; behind the arrival list stand zeros
 abbrev pub grantTo : Desk → ℕ → Lock → Desk
 grantTo d party l =
-    record { entries = set (d .entries) party (entryOf (Holding l)); queue = queuePlaces (queueOf d); waiting = d .waiting; grants = countGrants (d .grants) 1 }
+    record { entries = set (d .entries) party (entryOf (Holding l)); queue = queuePlaces (queueOf d); waiting = d .waiting; grants = countGrant (d .grants) party }
 
 -- the party waits for it, last in arrival order
 abbrev pub queueLast : Desk → ℕ → Lock → Desk
@@ -186,11 +183,11 @@ pub record LeaveResult : Type 0 where
   pub list : List ℕ
   pub answer : Answer ℕ
 
--- the answer counts the granted parties and lists them in order from byte 0 of the lent buffer
+-- the answer counts the granted parties and lists them in order from byte 0 of the lent buffer; each grant counts for the party granted
 abbrev pub leaveWith : Sweep → Desk → List ℕ → LeaveResult
 leaveWith s d list =
     record {
-      desk = record { entries = s .entries; queue = queuePlaces (s .stay); waiting = length (s .stay); grants = countGrants (d .grants) (length (s .granted)) };
+      desk = record { entries = s .entries; queue = queuePlaces (s .stay); waiting = length (s .stay); grants = countGrants (d .grants) (s .granted) };
       list = over (s .granted) list;
       answer = done (length (s .granted));
     }

@@ -5,7 +5,7 @@ ghost use lib.ListN.{length, take};
 ghost use Rattle.lists.specs.Lists.{over};
 ghost use Rattle.locks.specs.Lent.{lent, spanned};
 ghost use Rattle.desk.specs.Desks.{freshDesk};
-ghost use Rattle.desk.specs.Steps.{countGrants, grantTo, queueLast, enterStep, getStep, putStep, leaveStep};
+ghost use Rattle.desk.specs.Steps.{grantTo, queueLast, enterStep, getStep, putStep, leaveStep};
 ghost use Rattle.desk.specs.Answers.{Enters, Gets, Puts, Leaves};
 ghost use Rattle.desk.specs.Inner.{SizesJudged, Judged, NodeJudged, leftBy};
 use arrivals::Listed;
@@ -16,12 +16,12 @@ use locks::Stage;
 use parties::Entry;
 use sweeps::Swept;
 
-// The desk: an entry for each of 32 parties, the waiting parties in arrival order at the front of the queue, and the count of grants.
+// The desk: an entry for each of 32 parties, the waiting parties in arrival order at the front of the queue, and each party's count of grants.
 pub struct Desk {
     pub entries: [Entry; PARTIES],
     pub queue: [u8; PARTIES],
     pub waiting: usize,
-    pub grants: u32,
+    pub grants: [u32; PARTIES],
 }
 
 // What enter answers.
@@ -90,17 +90,6 @@ fn judge_sizes(n: usize, intervals: &[u16], edges: &[u16], edge_count: usize, sh
     0
 }
 
-// A count of grants with more added, which stops at the largest number.
-fn count_grants(grants: u32, more: usize) -> u32
-    ensures { λ r. ⌜ r ≡ countGrants grants more ⌝ }
-{
-    let room = (4294967295 - grants) as usize;
-    if room <= more {
-        return 4294967295;
-    }
-    grants + (more as u32)
-}
-
 // Writes the first of the places over the front of a lent list.
 fn put_list(places: &[u8], count: usize, list: &mut [u8])
     requires { ⌜ (count ≤ length (now places)) × (count ≤ length (now list)) ⌝ }
@@ -122,7 +111,7 @@ impl Desk {
             entries: [Entry { stage: Stage::Out }; PARTIES],
             queue: [0u8; PARTIES],
             waiting: 0,
-            grants: 0,
+            grants: [0u32; PARTIES],
         }
     }
 
@@ -186,13 +175,14 @@ impl Desk {
         let places = self.queue;
         let count = self.waiting;
         let tidy = arrivals::tidy(Listed { places, count });
-        let grants = count_grants(self.grants, 1);
+        let mut counts = self.grants;
+        grants::count_grant(&mut counts, party);
         let mut d = self;
         d.entries[party] = Entry {
             stage: Stage::Holding(l),
         };
         d.queue = tidy;
-        d.grants = grants;
+        d.grants = counts;
         d
     }
 
@@ -213,12 +203,14 @@ impl Desk {
         d
     }
 
-    // The desk as a pass over the waiters has left it.
+    // The desk as a pass over the waiters has left it; each grant counts for the party granted.
     fn after(self, s: Swept) -> Desk
         ensures { λ r. ⌜ r ≡ leftBy self s ⌝ }
     {
         let granted = s.granted;
-        let grants = count_grants(self.grants, granted.count);
+        let places = granted.places;
+        let mut counts = self.grants;
+        grants::count_grants(&mut counts, &places, granted.count);
         let entries = s.entries;
         let stay = s.stay;
         let queue = stay.places;
@@ -226,7 +218,7 @@ impl Desk {
             entries,
             queue,
             waiting: stay.count,
-            grants,
+            grants: counts,
         }
     }
 

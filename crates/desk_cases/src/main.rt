@@ -1,9 +1,11 @@
-// The four steps called directly: above all what no block file can show, nine names or none, tables or buffers too short, and all that is refused with 1, 5,
-// 6, 7 or 10. Standard input has a line for each call; each is written out again with what the desk answers. A line's first letter says what it does. Behind its
-// word stand 22 digits of intervals, 22 of edges and 10 of names, then columns of numbers. Desk and values go on from line to line.
+// The four steps called directly: above all what no block file can show, nine names or none, tables or buffers too short, all that is refused with 1, 5,
+// 6, 7 or 10, and counts of grants at their stop. Standard input has a line for each call; each is written out again with what the desk answers. A line's first letter says what it
+// does. Behind its word stand 22 digits of intervals, 22 of edges and 10 of names, then columns of numbers. Desk and values go on from line to line. Besides the steps there are
+// lines that make the desk by hand, and one that shows what a listing has after its steps.
 ghost use lib.ListN.{length};
 ghost use mathlib.Core.Path.{_≡_};
 ghost use Prim.Native.Nat.{_≤_};
+use arrivals::PARTIES;
 use desk::Desk;
 use desk::EnterAnswer;
 use desk::GetAnswer;
@@ -240,6 +242,29 @@ fn by_hand(c: Call, desk: Desk) -> Desk {
     d
 }
 
+// The desk with another count of grants, so many below the largest number: of a party, or of all for a number over 31.
+fn counts(c: Call, desk: Desk) -> Desk {
+    let count = 4294967295 - (c.lent % 65536) as u32;
+    let party = c.party;
+    let mut d = desk;
+    if party < PARTIES {
+        d.grants[party] = count;
+        return d;
+    }
+    d.grants = [count; PARTIES];
+    d
+}
+
+// Says the lines that a listing has after its steps: holders, waiters and grants, and each party's grants.
+fn show(desk: Desk) -> Desk {
+    let mut text = [0u8; 800];
+    let end = texts::put_end(desk, 0, &mut text);
+    let shown = octets::least(end, 800);
+    io::write_all(1, b"\n");
+    io::write_all(1, &text[0..shown]);
+    desk
+}
+
 // ALL LINES. The desk as a line leaves it, with so much of the tables lent.
 fn perform(
     line: &[u8],
@@ -255,6 +280,8 @@ fn perform(
         b'p' => put(c, desk, intervals, edges, values),
         b'l' => leave(c, desk, intervals, edges),
         b'd' => by_hand(c, desk),
+        b'c' => counts(c, desk),
+        b's' => show(desk),
         b'f' => Desk::fresh(),
         _ => desk,
     }

@@ -5,7 +5,7 @@ use mathlib.Core.List.{List, [], _∷_}
 use mathlib.Core.Option.{some}
 use Prim.Native.Nat.{ℕ}
 use lib.ListN.{length}
-use Rattle.lists.specs.Lists.{allBelow, anyBelow, every, any}
+use Rattle.lists.specs.Lists.{allBelow, anyBelow, every, any, sum}
 use Rattle.lists.specs.Answer.{_when_, refusal}
 use Rattle.hierarchy.specs.Hierarchy.{someEdge, spread, spreads, reach, edgeTwice, someUnreached}
 use Rattle.octets.specs.Fletcher.{words, sums, fletcher}
@@ -18,7 +18,7 @@ use Rattle.examples.specs.Rows.{right}
 use Rattle.examples.specs.Edges.{edges, blockEdges, recordEdges, soundEdges}
 
 pub all-edges : every right edges ≡ true
-unfolding allBelow anyBelow every any refusal someEdge spread spreads reach edgeTwice someUnreached notBlocks soundParties right edges
+unfolding allBelow anyBelow every any sum refusal someEdge spread spreads reach edgeTwice someUnreached notBlocks soundParties right edges
 all-edges = refl
 
 pub all-block-edges : every right blockEdges ≡ true

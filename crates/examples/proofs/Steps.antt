@@ -7,6 +7,7 @@ use Rattle.hierarchy.specs.Hierarchy.{someEdge}
 use Rattle.intervals.specs.Cover.{closest}
 use Rattle.parties.specs.Sound.{soundParties}
 use Rattle.sweeps.specs.Sweeps.{offer, sweep}
+use Rattle.grants.specs.Grants.{countGrants}
 use Rattle.desk.specs.Steps.{enterStep, getStep, putStep, leaveStep}
 use Rattle.blocks.specs.Record.{enterRight, kinds, rowIn, recordRight}
 use Rattle.runs.specs.Run.{lend, restored, lentTo, afterEnter, afterGet, afterPut, listed, afterLeave, moveCall, move}
@@ -26,11 +27,11 @@ all-tables = refl
 
 pub all-desks : every right desks ≡ true
 unfolding allBelow anyBelow every any keep over foldFrom least greatest refusal someEdge closest soundParties enterStep getStep putStep offer
-    sweep leaveStep listed sameNumbers asNumbers sameAnswers allStages deskNumbers right desks
+    sweep countGrants leaveStep listed sameNumbers asNumbers sameAnswers allStages deskNumbers right desks
 all-desks = refl
 
 pub all-records : every right records ≡ true
-unfolding allBelow anyBelow every any keep over foldFrom least greatest refusal someEdge closest soundParties enterStep getStep putStep offer sweep leaveStep
+unfolding allBelow anyBelow every any keep over foldFrom least greatest refusal someEdge closest soundParties enterStep getStep putStep offer sweep countGrants leaveStep
     enterRight kinds rowIn recordRight lend restored lentTo afterEnter afterGet afterPut listed afterLeave moveCall move
     sameNumbers asNumbers sameAnswers allStages deskNumbers right records
 all-records = refl

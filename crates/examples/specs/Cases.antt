@@ -1,9 +1,10 @@
 -- The kinds of starred cases, and the test that a case passes. Assumes nothing.
 use mathlib.Core.List.{List, [], _∷_, _++_}
 use mathlib.Core.Bool.{Bool, true, false, _&&_, _||_}
-use Prim.Native.Nat.{ℕ, _*_, _/_}
+use Prim.Native.Nat.{ℕ, zero, suc, _*_, _/_}
 use lib.Dec.{eqb}
 use lib.ListN.{length, replicate}
+use Rattle.lists.specs.Lists.{sum}
 use Rattle.lists.specs.Answer.{Answer, done, refused as denied}
 use Rattle.hierarchy.specs.Hierarchy.{reach}
 use Rattle.intervals.specs.Build.{BuildResult, buildStep}
@@ -18,9 +19,9 @@ pub data Case : Type 0 where
   -- n, the edges, the named nodes, and the cover
   cover : (n : ℕ) (edges names : List ℕ) (expected : ℕ) → Case
   -- n, the edges, two nodes that share nothing in their reach, low and high of the first and of the second, and a file with what its listing has
-  apart : (n : ℕ) (edges : List ℕ) (first second low high low′ high′ : ℕ) (records : List (List ℕ)) (answers : List StepAnswer) (holders waiters grants : ℕ) → Case
-  -- the records of a file, the answers of its steps, and holders, waiters and grants at the end
-  listing : (records : List (List ℕ)) (answers : List StepAnswer) (holders waiters grants : ℕ) → Case
+  apart : (n : ℕ) (edges : List ℕ) (first second low high low′ high′ : ℕ) (records : List (List ℕ)) (answers : List StepAnswer) (holders waiters grants : ℕ) (parties : List ℕ) → Case
+  -- the records of a file, the answers of its steps, holders, waiters and grants at the end, and in turn each party with grants and its count
+  listing : (records : List (List ℕ)) (answers : List StepAnswer) (holders waiters grants : ℕ) (parties : List ℕ) → Case
 
 -- two lists of numbers are the same
 unfoldable pub sameNumbers : List ℕ → List ℕ → Bool
@@ -71,11 +72,18 @@ disjoint [] gs = true
 disjoint (f ∷ fs) [] = true
 disjoint (f ∷ fs) (g ∷ gs) = (eqb f 0 || eqb g 0) && disjoint fs gs
 
+-- the parties from k on that have grants, each with its count behind it
+unfoldable pub withGrants : ℕ → List ℕ → List ℕ
+withGrants k [] = []
+withGrants k (zero ∷ counts) = withGrants (suc k) counts
+withGrants k (suc count ∷ counts) = k ∷ suc count ∷ withGrants (suc k) counts
+
 -- a file's run gives these answers and this end
-unfoldable pub gave : Answer FileRun → List StepAnswer → ℕ → ℕ → ℕ → Bool
-gave (done run) answers holders waiters grants =
-    sameAnswers (run .answers) answers && eqb (run .holders) holders && eqb (run .waiters) waiters && eqb (run .grants) grants
-gave (denied k) answers holders waiters grants = false
+unfoldable pub gave : Answer FileRun → List StepAnswer → ℕ → ℕ → ℕ → List ℕ → Bool
+gave (done run) answers holders waiters grants parties =
+    sameAnswers (run .answers) answers && eqb (run .holders) holders && eqb (run .waiters) waiters && eqb (sum (run .grants)) grants
+    && sameNumbers (withGrants 0 (run .grants)) parties
+gave (denied k) answers holders waiters grants parties = false
 
 -- the file of the records
 abbrev pub written : List (List ℕ) → List ℕ
@@ -89,8 +97,8 @@ written records = fileOf (flat records) (length records)
 unfoldable pub passes : Case → Bool
 passes (intervals n edges expected) = wrote (built n edges) expected
 passes (cover n edges names expected) = unrefused (built n edges) && eqb (coverOf n ((built n edges) .places) names) expected
-passes (apart n edges first second low high low′ high′ records answers holders waiters grants) =
+passes (apart n edges first second low high low′ high′ records answers holders waiters grants parties) =
     disjoint (reach n edges first) (reach n edges second)
     && unrefused (built n edges) && spans (built n edges) first low high && spans (built n edges) second low′ high′
-    && gave (runFile (written records)) answers holders waiters grants
-passes (listing records answers holders waiters grants) = gave (runFile (written records)) answers holders waiters grants
+    && gave (runFile (written records)) answers holders waiters grants parties
+passes (listing records answers holders waiters grants parties) = gave (runFile (written records)) answers holders waiters grants parties

@@ -4,7 +4,7 @@ use mathlib.Core.Bool.{true, false}
 use Prim.Native.Nat.{ℕ}
 use lib.ListN.{set, take, replicate}
 use Rattle.lists.specs.Answer.{numberOf, refusal}
-use Rattle.lists.specs.Lists.{one}
+use Rattle.lists.specs.Lists.{one, sum}
 use Rattle.hierarchy.specs.Hierarchy.{someEdge, edgeWrong, sizeWrong, edgesTooMany, edgeTwice, someUnreached}
 use Rattle.intervals.specs.Build.{buildShort}
 use Rattle.blocks.specs.Record.{recordRight}
@@ -20,7 +20,8 @@ use Rattle.parties.specs.Parties.{entryOf}
 use Rattle.parties.specs.Sound.{listsParties, listsOnce, listsWaiting, intervalsReal, coversRight, holdersApart, waitersHeldUp}
 use Rattle.desk.specs.Desks.{freshDesk}
 use Rattle.desk.specs.Sound.{soundDesk}
-use Rattle.desk.specs.Steps.{countGrants, enterRefusal, valueChecks, putOwn, leaveRefusal}
+use Rattle.grants.specs.Grants.{noGrants, oneGrantMore}
+use Rattle.desk.specs.Steps.{enterRefusal, valueChecks, putOwn, leaveRefusal}
 use Rattle.replay.specs.Replay.{granted, waits, value, stored, left, refused}
 use Rattle.examples.specs.Cases.{Case, listing}
 use Rattle.examples.specs.Rows.{Row, is, are}
@@ -122,9 +123,10 @@ edges =
     ∷ is (entering 1 (replicate 9 1) 9) 15
     ∷ is (entering 1 (2 ∷ []) 1) 15
     ∷ is (entering 1 (replicate 8 1) 9) 1
-    -- the count of grants stops
-    ∷ is (countGrants 4294967294 1) 4294967295
-    ∷ is (countGrants 4294967295 1) 4294967295
+    -- a party's count of grants stops; the sum of 32 counts at the stop goes past it
+    ∷ is (oneGrantMore 4294967294) 4294967295
+    ∷ is (oneGrantMore 4294967295) 4294967295
+    ∷ is (sum (replicate 32 4294967295)) 137438953440
     -- conflict of two holds, as the C host asks: intervals that meet, that do not, both reading; modes 0 and 3, low 0, ends at 256 and 257, low above high
     ∷ is (conflictCall 1 1 4 2 4 9) 1
     ∷ is (conflictCall 1 1 4 2 5 9) 0
@@ -282,7 +284,7 @@ blocked = callsListed holding 2 Reading
 
 -- with an entry more than a desk has, for a party 32 that waits: no other clause sees that it is none
 abbrev pub oneMore : Desk
-oneMore = record { entries = blocked .entries ++ (entryOf (Waiting (lock Reading 1 1 1)) ∷ []); queue = blocked .queue; waiting = 1; grants = 0 }
+oneMore = record { entries = blocked .entries ++ (entryOf (Waiting (lock Reading 1 1 1)) ∷ []); queue = blocked .queue; waiting = 1; grants = noGrants }
 
 -- party 1 reads node 1
 abbrev pub reader : Desk
@@ -367,4 +369,4 @@ stepEdges =
     ∷ stored
     ∷ value 1
     ∷ [])
-    1 0 2
+    1 0 2 (4 ∷ 1 ∷ 31 ∷ 1 ∷ [])

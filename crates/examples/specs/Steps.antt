@@ -45,17 +45,22 @@ list d party = record { entries = d .entries; queue = set (d .queue) (d .waiting
 abbrev pub counting : Desk → ℕ → Desk
 counting d waiting = record { entries = d .entries; queue = d .queue; waiting = waiting; grants = d .grants }
 
--- with another count of grants
-abbrev pub granting : Desk → ℕ → Desk
-granting d grants = record { entries = d .entries; queue = d .queue; waiting = d .waiting; grants = grants }
+-- with another count of a party's grants
+abbrev pub granting : Desk → ℕ → ℕ → Desk
+granting d party count = record { entries = d .entries; queue = d .queue; waiting = d .waiting; grants = set (d .grants) party count }
 
--- a desk after four enters: 1 writes 5, 3 reads 3, 2 and 4 wait to read 2 and 0, in this order
-abbrev pub four : Desk
-four =
+-- a desk after three enters: 1 writes 5, 3 reads 3, and 2 waits to read 2
+abbrev pub three : Desk
+three =
     granting
-    (list (seat (list (seat (seat (seat freshDesk 1 (Holding (lock Writing 5 3 3))) 3 (Holding (lock Reading 3 1 1)))
-    2 (Waiting (lock Reading 2 3 4))) 2) 4 (Waiting (lock Reading 0 1 4))) 4)
-    2
+    (granting
+    (list (seat (seat (seat freshDesk 1 (Holding (lock Writing 5 3 3))) 3 (Holding (lock Reading 3 1 1))) 2 (Waiting (lock Reading 2 3 4))) 2)
+    1 1)
+    3 1
+
+-- and after four: 4 waits to read 0, behind 2
+abbrev pub four : Desk
+four = list (seat three 4 (Waiting (lock Reading 0 1 4))) 4
 
 -- the desk after an enter over T
 abbrev pub afterEnter : Desk → ℕ → Mode → List ℕ → Desk
@@ -79,7 +84,7 @@ allStages (e ∷ es) = stageNumbers (e .stage) ++ allStages es
 
 -- a whole desk as numbers
 unfoldable pub deskNumbers : Desk → List ℕ
-deskNumbers d = d .waiting ∷ d .grants ∷ d .queue ++ allStages (d .entries)
+deskNumbers d = d .waiting ∷ d .grants ++ (d .queue ++ allStages (d .entries))
 
 -- STEPS over T, with ten values of 100 and 32 bytes. Enter, with as many names as lent and a name count
 abbrev pub enters : Desk → ℕ → List ℕ → ℕ → List StepAnswer
@@ -325,18 +330,24 @@ desks =
     ∷ are ((leaveStep tableT four 5 (replicate 34 170)) .list) (replicate 34 170)
     ∷ are ((putStep tableT four 1 9 77 (replicate 10 100)) .values) (replicate 9 100 ++ (77 ∷ []))
     ∷ are ((putStep tableT four 3 3 1 (replicate 10 100)) .values) (replicate 10 100)
-    -- grants after an enter that is granted, a leave that grants two, an enter that waits, a leave that grants nobody
-    ∷ is ((enterStep tableT (granting freshDesk 4294967293) 0 Writing (3 ∷ []) 1) .desk .grants) 4294967294
-    ∷ is ((enterStep tableT (granting freshDesk 4294967294) 0 Writing (3 ∷ []) 1) .desk .grants) 4294967295
-    ∷ is ((enterStep tableT (granting freshDesk 4294967295) 0 Writing (3 ∷ []) 1) .desk .grants) 4294967295
-    ∷ is ((leaveStep tableT (granting four 4294967292) 1 (replicate 32 0)) .desk .grants) 4294967294
-    ∷ is ((leaveStep tableT (granting four 4294967293) 1 (replicate 32 0)) .desk .grants) 4294967295
-    ∷ is ((leaveStep tableT (granting four 4294967294) 1 (replicate 32 0)) .desk .grants) 4294967295
-    ∷ is ((leaveStep tableT (granting four 4294967295) 1 (replicate 32 0)) .desk .grants) 4294967295
-    ∷ is ((enterStep tableT (granting four 4294967294) 5 Writing (0 ∷ []) 1) .desk .grants) 4294967294
-    ∷ is ((leaveStep tableT (granting four 4294967294) 3 (replicate 32 0)) .desk .grants) 4294967294
-    ∷ is ((enterStep tableT (granting four 4294967295) 5 Writing (0 ∷ []) 1) .desk .grants) 4294967295
-    ∷ is ((leaveStep tableT (granting four 4294967295) 3 (replicate 32 0)) .desk .grants) 4294967295
+    -- an enter that is granted counts for its party, up to the stop
+    ∷ are ((enterStep tableT (granting freshDesk 0 4294967293) 0 Writing (3 ∷ []) 1) .desk .grants) (4294967294 ∷ replicate 31 0)
+    ∷ are ((enterStep tableT (granting freshDesk 0 4294967294) 0 Writing (3 ∷ []) 1) .desk .grants) (4294967295 ∷ replicate 31 0)
+    ∷ are ((enterStep tableT (granting freshDesk 0 4294967295) 0 Writing (3 ∷ []) 1) .desk .grants) (4294967295 ∷ replicate 31 0)
+    ∷ are ((enterStep tableT (granting freshDesk 30 4294967295) 31 Writing (3 ∷ []) 1) .desk .grants) (replicate 30 0 ++ (4294967295 ∷ 1 ∷ []))
+    -- a leave of 1 that grants 2 and 4 counts for these two, up to the stop, and not for 1
+    ∷ are ((leaveStep tableT four 1 (replicate 32 0)) .desk .grants) (0 ∷ 1 ∷ 1 ∷ 1 ∷ 1 ∷ replicate 27 0)
+    ∷ are ((leaveStep tableT (granting (granting four 2 4294967294) 4 4294967295) 1 (replicate 32 0)) .desk .grants) (0 ∷ 1 ∷ 4294967295 ∷ 1 ∷ 4294967295 ∷ replicate 27 0)
+    ∷ are ((leaveStep tableT (granting (granting four 1 4294967294) 2 4294967293) 1 (replicate 32 0)) .desk .grants) (0 ∷ 4294967294 ∷ 4294967294 ∷ 1 ∷ 1 ∷ replicate 27 0)
+    -- so does a leave of 3 that grants 6 behind 2, which stays waiting, and one of 2, which waits, that grants 7
+    ∷ are ((leaveStep tableT (last (granting three 3 8) 6 Writing) 3 (replicate 32 0)) .desk .grants) (0 ∷ 1 ∷ 0 ∷ 8 ∷ 0 ∷ 0 ∷ 1 ∷ replicate 25 0)
+    ∷ are ((leaveStep tableT (list (seat (granting three 2 8) 7 (Waiting (lock Writing 8 4 4))) 7) 2 (replicate 32 0)) .desk .grants) (0 ∷ 1 ∷ 8 ∷ 1 ∷ 0 ∷ 0 ∷ 0 ∷ 1 ∷ replicate 24 0)
+    -- an enter that waits, a leave of a holder and one of a waiter that grant nobody, and a refused enter and leave count for none
+    ∷ are ((enterStep tableT four 5 Writing (0 ∷ []) 1) .desk .grants) (0 ∷ 1 ∷ 0 ∷ 1 ∷ replicate 28 0)
+    ∷ are ((leaveStep tableT four 3 (replicate 32 0)) .desk .grants) (0 ∷ 1 ∷ 0 ∷ 1 ∷ replicate 28 0)
+    ∷ are ((leaveStep tableT four 2 (replicate 32 0)) .desk .grants) (0 ∷ 1 ∷ 0 ∷ 1 ∷ replicate 28 0)
+    ∷ are ((enterStep tableT four 1 Writing (3 ∷ []) 1) .desk .grants) (0 ∷ 1 ∷ 0 ∷ 1 ∷ replicate 28 0)
+    ∷ are ((leaveStep tableT four 5 (replicate 32 0)) .desk .grants) (0 ∷ 1 ∷ 0 ∷ 1 ∷ replicate 28 0)
     ∷ []
 
 -- BYTES PERFORMED AS A RECORD over a hierarchy, on the desk `four` and ten values of 100

@@ -82,9 +82,9 @@ starred =
     -- edges 0→1, 1→3, 1→2, 2→1
     ∷ intervals 4 (0 ∷ 1 ∷ 1 ∷ 3 ∷ 1 ∷ 2 ∷ 2 ∷ 1 ∷ []) (1 ∷ 2 ∷ 1 ∷ 2 ∷ 1 ∷ 2 ∷ 1 ∷ 1 ∷ [])
     -- node 4 has [1,3], and node 2, the second leaf that is walked into, [2,2]; a writer of 4 makes a writer of 2 wait, though they share nothing
-    ∷ apart 5 shared 4 2 1 3 2 2 fileShared (granted 0 ∷ waits ∷ []) 1 1 1
-    -- the listing of T: ten answers, those of steps 2, 6, 7 and 9 since point 1, and the end's three numbers
+    ∷ apart 5 shared 4 2 1 3 2 2 fileShared (granted 0 ∷ waits ∷ []) 1 1 1 (1 ∷ 1 ∷ [])
+    -- the listing of T: ten answers, those of steps 2, 6, 7 and 9 since point 1, the end's three numbers, and since point 4 the parties with grants
     ∷ listing fileT
     (granted 5 ∷ granted 8 ∷ granted 3 ∷ waits ∷ stored ∷ left (4 ∷ []) ∷ refused 16 ∷ waits ∷ refused 16 ∷ left [] ∷ [])
-    3 0 4
+    3 0 4 (1 ∷ 1 ∷ 2 ∷ 1 ∷ 3 ∷ 1 ∷ 4 ∷ 1 ∷ [])
     ∷ []

@@ -1,4 +1,4 @@
--- Visits of table T as files: what their steps answer, with holders, waiters and grants at the end. Assumes nothing.
+-- Visits of table T as files: what their steps answer, with holders, waiters and grants, all and by party, at the end. Assumes nothing.
 use mathlib.Core.List.{List, [], _∷_, _++_}
 use Prim.Native.Nat.{ℕ}
 use Rattle.replay.specs.Replay.{granted, waits, value, left, refused}
@@ -40,6 +40,7 @@ visits =
     (granted 5 ∷ granted 8 ∷ granted 3 ∷ waits
     ∷ refused 14 ∷ value 0 ∷ refused 16 ∷ refused 16
     ∷ waits ∷ left (4 ∷ []) ∷ left [] ∷ left (5 ∷ []) ∷ [])
-    2 0 5
+    2 0 5 (1 ∷ 1 ∷ 2 ∷ 1 ∷ 3 ∷ 1 ∷ 4 ∷ 1 ∷ 5 ∷ 1 ∷ [])
     ∷ listing (recordsT ++ arrivals) (granted 0 ∷ waits ∷ waits ∷ waits ∷ waits ∷ left (9 ∷ 4 ∷ 0 ∷ []) ∷ left (20 ∷ []) ∷ []) 3 0 5
+    (0 ∷ 1 ∷ 4 ∷ 1 ∷ 9 ∷ 1 ∷ 20 ∷ 1 ∷ 31 ∷ 1 ∷ [])
     ∷ []

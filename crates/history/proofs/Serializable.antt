@@ -207,7 +207,7 @@ module _ (u : List ℕ) where
         was q l (inl e) = absurd (let z : _≡_ {A = ℕ} 0 1 = cc in omega arith)
         was q l (inr e) = e
 
-        held : (q : ℕ) (l : Lock) → (visited {A = Unit {0}} q (map begun (t .granted)) ≡ true) ⊎ (stageAt (record { entries = from₀ .entries; queue = []; waiting = 0; grants = 0 }) q ≡ Holding l)
+        held : (q : ℕ) (l : Lock) → (visited {A = Unit {0}} q (map begun (t .granted)) ≡ true) ⊎ (stageAt (record { entries = from₀ .entries; queue = []; waiting = 0; grants = [] }) q ≡ Holding l)
             → (visited {A = Unit {0}} q (map begun (t .granted)) ≡ true) ⊎ (stageAt (s .desk) q ≡ Holding l)
         held q l (inl v) = inl v
         held q l (inr e) = inr (was q l (set-stage (s .desk .entries) p q Out l e))

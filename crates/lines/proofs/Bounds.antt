@@ -11,6 +11,7 @@ use lib.ListN.{length, getD, take, drop, set, replicate, length-append, length-s
 use lib.Seq.{getD-take, take-append-seam}
 use borrow.Author.Tests.{leb-true, ltb-true, ltb-false}
 use Rattle.lists.proofs.Loops.{keep-few}
+use Rattle.lists.proofs.Marks.{set-get, zero-at}
 use Rattle.lists.specs.Lists.{allBelow, every, keptIf, keep, over, Below}
 use Rattle.lists.specs.Answer.{Check, refusal}
 use Rattle.intervals.specs.Cover.{callInterval}
@@ -34,6 +35,7 @@ use Rattle.sweeps.specs.Sweeps.{Sweep, staysWaiting, isGranted, offerIf, offerT
 use Rattle.desk.specs.Steps.{putOwn, StepFacts, stepChecks, valueChecks, free, enterRefusal, enterIf, enterUnless, enterStep}
 use Rattle.desk.specs.Steps.{getUnless, getStep, putUnless, putStep, afterLeaving, leaveRefusal, leaveUnless, leaveStep}
 use Rattle.desk.proofs.Facts.{step-facts}
+use Rattle.grants.proofs.Counts.{grant-below, grants-below, grants-length}
 use Rattle.parties.proofs.Clauses.{clauses, sound-few}
 use Rattle.replay.specs.Replay.{StepAnswer, granted, refused, enterLine, getLine, putLine, leaveLine, answerIn, enterCall, getCall, putCall, leaveCall, stepOf, performStep}
 use Rattle.runs.specs.Run.{lend, Call, lentTo, State, listed, afterEnter, afterGet, afterPut, afterLeave, moveCall, move}
@@ -47,13 +49,6 @@ module _ (m : ℕ) where
   below-append [] ys f g i = g i
   below-append (x ∷ xs) ys f g zero = f 0
   below-append (x ∷ xs) ys f g (suc i) = below-append xs ys (λ j. f (suc j)) g i
-
-  below-set : (l : List ℕ) (k x : ℕ) → Below m l → x < m → Below m (set l k x)
-  below-set [] k x f h i = f i
-  below-set (y ∷ ys) zero x f h zero = h
-  below-set (y ∷ ys) zero x f h (suc i) = f (suc i)
-  below-set (y ∷ ys) (suc k) x f h zero = f 0
-  below-set (y ∷ ys) (suc k) x f h (suc i) = below-set ys k x (λ j. f (suc j)) h i
 
   below-keep : (p : ℕ → Bool) (l : List ℕ) → Below m l → Below m (keep p l)
   unfolding keep
@@ -104,7 +99,8 @@ refused-short k h = omega (arith, digits-most k (omega arith))
 pub record Bounded (d : Desk) : Type 0 where
   pub entries : length (d .entries) ≡ 32
   pub waiting : d .waiting ≤ 33
-  pub grants : d .grants ≤ 4294967295
+  pub grants-long : length (d .grants) ≡ 32
+  pub grants : Below 4294967296 (d .grants)
 
 -- a step that is not refused found n right and the arrival list in order
 module _ (H : Hierarchy) (d : Desk) (party : ℕ) (short : Bool) (own : List Check) (e : refusal (stepChecks H d party short own) ≡ none) where
@@ -143,11 +139,16 @@ module _ (H : Hierarchy) (d : Desk) (party : ℕ) (mode : Mode) (names : List �
     where
       if-free : (t : Bool) → Bounded ((enterIf t d party lock) .desk) × Short (enterLine ((enterIf t d party lock) .answer))
       if-free true = (
-        record { entries = length-set (d .entries) party _ ∙ b .entries; waiting = b .waiting; grants = omega arith },
+        record {
+          entries = length-set (d .entries) party _ ∙ b .entries;
+          waiting = b .waiting;
+          grants-long = length-set (d .grants) party _ ∙ b .grants-long;
+          grants = grant-below party (d .grants) (b .grants);
+        },
         let c = cover-most H d party _ _ e (take nameCount names) in omega (arith, digits-most (coverIn H (take nameCount names)) (omega arith)),
       )
       if-free false = (
-        record { entries = length-set (d .entries) party _ ∙ b .entries; waiting = omega (arith, few-wait H d party _ _ e); grants = b .grants },
+        record { entries = length-set (d .entries) party _ ∙ b .entries; waiting = omega (arith, few-wait H d party _ _ e); grants-long = b .grants-long; grants = b .grants },
         omega arith,
       )
 
@@ -175,7 +176,7 @@ module _ (H : Hierarchy) (d : Desk) (party node number : ℕ) (values : List ℕ
 
   put-by : (o : Option ℕ) → AtMost o → PutBounded o
   put-by (some k) low = (b, v, refused-short k low)
-  put-by none low = (b, below-set 18446744073709551616 values node number v wide, omega arith)
+  put-by none low = (b, (λ i. set-get (λ (k : ℕ). k < 18446744073709551616) values node number i 0 wide (v i)), omega arith)
 
   pub put-bounded : Bounded ((putStep H d party node number values) .desk) × Below 18446744073709551616 ((putStep H d party node number values) .values) × Short (putLine
       ((putStep H d party node number values) .answer))
@@ -244,7 +245,12 @@ module _ (H : Hierarchy) (d : Desk) (party : ℕ) (b : Bounded d) where
       let w : Swept (0 + length others) s = swept others 0 _ all start in
       let most : length others ≤ 32 = omega (arith, keep-few (λ other. not (eqb other party)) (queueOf d), length-take (d .waiting) (d .queue)) in
       let same : take (length (s .granted)) (s .granted ++ drop (length (s .granted)) list) ≡ s .granted = take-append-seam (s .granted) (drop (length (s .granted)) list) in (
-        record { entries = w .entries; waiting = omega (arith, w .taken, most); grants = omega arith },
+        record {
+          entries = w .entries;
+          waiting = omega (arith, w .taken, most);
+          grants-long = grants-length (s .granted) (d .grants) ∙ b .grants-long;
+          grants = grants-below (s .granted) (d .grants) (b .grants);
+        },
         rw same (omega (arith, spaced-most (s .granted) (w .granted), w .taken, most)),
       )
 
@@ -282,4 +288,4 @@ module _ (s : State) (r : List ℕ) (bytes : Below 256 r) (f : Fine s) where
   perform-fine = asks-fine (eqb (kindOf r) 3) (eqb (kindOf r) 4) (eqb (kindOf r) 5)
 
 pub fresh-bounded : Bounded freshDesk
-fresh-bounded = record { entries = refl; waiting = omega arith; grants = omega arith }
+fresh-bounded = record { entries = refl; waiting = omega arith; grants-long = refl; grants = λ i. omega (arith, zero-at 32 i) }

@@ -54,17 +54,17 @@ module _ (file values text : List ℕ) where
       }
 
   pub list-short : ltb (length values) 256 ≡ true → Lists (ListingRefused 1) values text (listFile file values text)
-  list-short e = list-refused (refused-here (1 when (ltb (length values) 256 || ltb (length text) 635040)) [] (rw e refl))
+  list-short e = list-refused (refused-here (1 when (ltb (length values) 256 || ltb (length text) 635680)) [] (rw e refl))
 
-  pub list-narrow : ltb (length values) 256 ≡ false → ltb (length text) 635040 ≡ true → Lists (ListingRefused 1) values text (listFile file values text)
-  list-narrow d e = list-refused (refused-here (1 when (ltb (length values) 256 || ltb (length text) 635040)) [] (rw (d, e) refl))
+  pub list-narrow : ltb (length values) 256 ≡ false → ltb (length text) 635680 ≡ true → Lists (ListingRefused 1) values text (listFile file values text)
+  list-narrow d e = list-refused (refused-here (1 when (ltb (length values) 256 || ltb (length text) 635680)) [] (rw (d, e) refl))
 
-  pub list-done : {values′ text′ : List ℕ} {r : ℕ} → Below 256 file → ltb (length values) 256 ≡ false → ltb (length text) 635040 ≡ false → Listing (runFile file) values text values′ text′ r
+  pub list-done : {values′ text′ : List ℕ} {r : ℕ} → Below 256 file → ltb (length values) 256 ≡ false → ltb (length text) 635680 ≡ false → Listing (runFile file) values text values′ text′ r
       → Lists (Listed r) values′ text′ (listFile file values text)
   unfolding listFile refusal
   list-done bytes d e l =
-      let o : listingRefusal values text ≡ none = refused-later (1 when (ltb (length values) 256 || ltb (length text) 635040)) [] (rw (d, e) refl) in
-      let all = l .text-after ∙ put-fits (listing (runFile file)) text 0 (omega (arith, listing-most file bytes, ltb-false (length text) 635040 e)) in
+      let o : listingRefusal values text ≡ none = refused-later (1 when (ltb (length values) 256 || ltb (length text) 635680)) [] (rw (d, e) refl) in
+      let all = l .text-after ∙ put-fits (listing (runFile file)) text 0 (omega (arith, listing-most file bytes, ltb-false (length text) 635680 e)) in
       record {
         answer = ap done (ap (λ (p : Page). p .at) all ∙ zero-add _) ∙ ap (λ (x : Option ℕ). answerOf x (length (listing (runFile file)))) (sym o);
         values-after = l .values-after ∙ ap (λ (x : Option ℕ). roomAfter x (valuesOf (runFile file)) values) (sym o);

@@ -1,18 +1,19 @@
--- THE LISTING OF A FILE FITS ITS ROOM: 160 bytes for each of 3,968 steps and the last line. Assumes nothing.
+-- THE LISTING OF A FILE FITS ITS ROOM: 160 bytes for each of 3,968 steps and for `end`, and 20 for each of 32 parties. Assumes nothing.
 use mathlib.Core.Path.{_≡_, refl}
-use mathlib.Core.Bool.{Bool, true, false}
+use mathlib.Core.Bool.{Bool, true, false, cond}
 use mathlib.Core.List.{List, [], _∷_, _++_}
 use mathlib.Core.Option.{Option, none, some}
 use Prim.Native.Nat.{ℕ, zero, suc, _+_, _*_, _/_, _≤_, _<_}
+use native.Mathlib.Nat.{pow-zero, pow-suc}
 use native.Mathlib.Omega.{arith}
-use lib.Dec.{leb, ltb}
-use borrow.Author.Tests.{ltb-true, ltb-false}
-use lib.ListN.{length, take, drop, replicate, length-append, length-replicate, getD-replicate, List·getD-eq-default}
+use lib.Dec.{eqb, leb}
+use lib.ListN.{length, take, drop, length-append}
 use Rattle.lists.proofs.Loops.{keep-few}
-use Rattle.lists.specs.Lists.{every, keptIf, keep, Below}
+use Rattle.lists.proofs.Marks.{zero-at}
+use Rattle.grants.proofs.Counts.{sum-most}
+use Rattle.lists.specs.Lists.{every, keptIf, keep, sum, Below}
 use Rattle.lists.specs.Answer.{done, refused, refusal}
 use Rattle.hierarchy.specs.Hierarchy.{hierarchyChecks}
-use Rattle.lists.proofs.Bools.{bool}
 use Rattle.blocks.specs.Record.{kindOf}
 use Rattle.blocks.specs.Block.{countIn, recordsIn}
 use Rattle.blocks.specs.File.{recordsOf, wholeBlocks, fileRecords, fileChecks}
@@ -25,8 +26,9 @@ use Rattle.replay.specs.Replay.{StepAnswer, answerIn, answersOf, eachRecord, re
 use Rattle.replay.specs.Replay.{startOf, performStep, performAll, isHolding, holdersAt, fileRun, runUnless, runRecords, fileUnless, runFile}
 use Rattle.replay.proofs.Records.{records-length, count-most}
 use Rattle.opening.proofs.Opens.{records-whole}
-use Rattle.texts.specs.Text.{decimal, space, newline, answerText, refusedWord, endWord}
-use Rattle.texts.specs.Lines.{stepLine, stepLines, endLine, listing}
+use Rattle.texts.specs.Text.{decimal, space, newline, answerText, refusedWord, endWord, partyWord}
+use Rattle.texts.specs.Lines.{stepLine, stepLines, endLine, partyLine, lineIfGranted, partyLines, endLines, listing}
+use Rattle.texts.proofs.Puts.{decimal-most}
 use Rattle.lines.proofs.Bounds.{below-append, digits-most, Short, AtMost, refusal-low, Bounded, Fine, perform-fine, fresh-bounded}
 
 -- A LINE has at most 160 bytes
@@ -72,7 +74,7 @@ records-bytes (suc k) s b =
     below-append 256 (recordsIn (take 512 s)) (recordsOf k (drop 512 s)) (bytes-take (16 * countIn (take 512 s)) (drop 8 (take 512 s)) (bytes-drop 8 (take 512 s) (bytes-take 512 s b)))
     (records-bytes k (drop 512 s) (bytes-drop 512 s b))
 
--- THE LAST LINE
+-- AFTER THE STEPS: the line `end`,
 end-most : (h w g : ℕ) → h < 18446744073709551616 → w < 18446744073709551616 → g < 18446744073709551616 → length (endLine h w g) ≤ 160
 end-most h w g a b c =
     omega (
@@ -85,47 +87,70 @@ end-most h w g a b c =
       digits-most g c,
     )
 
--- of a desk whose numbers are bounded
-pub desk-end-most : (d : Desk) → Bounded d → length (endLine (holdersAt d) (d .waiting) (d .grants)) ≤ 160
+-- the line of a party, with a number of two digits and a count of ten,
+party-most : (party count : ℕ) → party < 32 → count < 4294967296 → length (lineIfGranted party count) ≤ 20
+party-most party count h g = by (eqb count 0)
+  where
+    by : (b : Bool) → length (cond b [] (partyLine party count)) ≤ 20
+    by true = omega arith
+    by false =
+        omega (
+          arith,
+          length-append (partyWord ++ decimal party) ((space ++ decimal count) ++ newline),
+          length-append (space ++ decimal count) newline,
+          decimal-most (suc party) 2 party (omega (arith, pow-suc 10 1, pow-suc 10 0, pow-zero 10)) (omega arith),
+          decimal-most (suc count) 10 count (omega (arith, g)) (omega arith),
+        )
+
+-- those of all parties,
+parties-most : (grants : List ℕ) (k : ℕ) → k + length grants ≤ 32 → Below 4294967296 grants → length (partyLines k grants) ≤ 20 * length grants
+unfolding partyLines
+parties-most [] k h b = omega arith
+parties-most (count ∷ rest) k h b =
+    omega (
+      arith,
+      length-append (lineIfGranted k count) (partyLines (suc k) rest),
+      party-most k count (omega arith) (b 0),
+      parties-most rest (suc k) (omega arith) (λ i. b (suc i)),
+    )
+
+-- and all of it, of a desk whose numbers are bounded
+pub desk-end-most : (d : Desk) → Bounded d → length (endLines (holdersAt d) (d .waiting) (d .grants)) ≤ 800
 desk-end-most d b =
-    end-most (holdersAt d) (d .waiting) (d .grants)
-    (omega (arith, count-most (λ (e : Entry). isHolding (e .stage)) (d .entries), b .entries)) (omega (arith, b .waiting)) (omega (arith, b .grants))
+    let end : List ℕ = endLine (holdersAt d) (d .waiting) (sum (d .grants)) in
+    let few : length end ≤ 160 = end-most (holdersAt d) (d .waiting) (sum (d .grants))
+    (omega (arith, count-most (λ (e : Entry). isHolding (e .stage)) (d .entries), b .entries)) (omega (arith, b .waiting)) (omega (arith, sum-most (d .grants) (b .grants), b .grants-long)) in
+    omega (arith, length-append end (partyLines 0 (d .grants)), few, parties-most (d .grants) 0 (omega (arith, b .grants-long)) (b .grants), b .grants-long)
 
 -- A RUN over records of bytes starts with a fresh desk and zeros
 pub start-fine : (H : Hierarchy) (n : ℕ) → Fine (startOf H n)
-start-fine H n = record { desk = fresh-bounded; values = zeros-below }
-  where
-    zeros-below : Below 18446744073709551616 (replicate n 0)
-    zeros-below i =
-        bool (ltb i n)
-        (λ e. omega (arith, getD-replicate {A = ℕ} n i 0 0 (ltb-true i n e)))
-        (λ e. omega (arith, List·getD-eq-default {A = ℕ} (replicate n 0) 0 {n = i} (omega (arith, ltb-false i n e, length-replicate {A = ℕ} n 0))))
+start-fine H n = record { desk = fresh-bounded; values = λ i. omega (arith, zero-at n i) }
 
-run-most : (H : Hierarchy) (n : ℕ) (rs : List (List ℕ)) → length rs ≤ 3968 → AllBytes rs → length (listing (done (fileRun (performAll (startOf H n) (stepRecords rs))))) ≤ 635040
+run-most : (H : Hierarchy) (n : ℕ) (rs : List (List ℕ)) → length rs ≤ 3968 → AllBytes rs → length (listing (done (fileRun (performAll (startOf H n) (stepRecords rs))))) ≤ 635680
 run-most H n rs few b =
     let whole : Ran = performAll (startOf H n) (stepRecords rs) in
     let steps = keep-few (λ (r : List ℕ). leb 3 (kindOf r)) rs in
     let all = steps-most (stepRecords rs) (startOf H n) 1 (omega (arith, steps, few)) (steps-bytes rs b) (start-fine H n) in
     let d : Desk = whole .state .desk in
-    omega (arith, length-append (stepLines 1 (answersOf whole)) (endLine (holdersAt d) (d .waiting) (d .grants)), all .1, desk-end-most d (all .0 .desk), steps, few)
+    omega (arith, length-append (stepLines 1 (answersOf whole)) (endLines (holdersAt d) (d .waiting) (d .grants)), all .1, desk-end-most d (all .0 .desk), steps, few)
 
 -- REFUSED, or run
-refused-most : (k : ℕ) → k ≤ 99 → length (listing (refused k)) ≤ 635040
+refused-most : (k : ℕ) → k ≤ 99 → length (listing (refused k)) ≤ 635680
 refused-most k h = omega (arith, length-append (refusedWord ++ decimal k) newline, digits-most k (omega arith))
 
-records-most : (rs : List (List ℕ)) → length rs ≤ 3968 → AllBytes rs → length (listing (runRecords rs)) ≤ 635040
+records-most : (rs : List (List ℕ)) → length rs ≤ 3968 → AllBytes rs → length (listing (runRecords rs)) ≤ 635680
 unfolding runRecords every
 records-most rs few b = by (refusal (hierarchyChecks (sizeOf rs) (edgeTable rs) (edgeCountOf rs))) (refusal-low _ refl)
   where
-    by : (o : Option ℕ) → AtMost o → length (listing (runUnless o rs)) ≤ 635040
+    by : (o : Option ℕ) → AtMost o → length (listing (runUnless o rs)) ≤ 635680
     by (some k) low = refused-most k low
     by none low = run-most (builtOf rs) (sizeOf rs) rs few b
 
-pub listing-most : (file : List ℕ) → Below 256 file → length (listing (runFile file)) ≤ 635040
+pub listing-most : (file : List ℕ) → Below 256 file → length (listing (runFile file)) ≤ 635680
 unfolding runFile every
 listing-most file b = by (refusal (fileChecks file)) refl (refusal-low _ refl)
   where
-    by : (o : Option ℕ) → refusal (fileChecks file) ≡ o → AtMost o → length (listing (fileUnless o file)) ≤ 635040
+    by : (o : Option ℕ) → refusal (fileChecks file) ≡ o → AtMost o → length (listing (fileUnless o file)) ≤ 635680
     by (some k) e low = refused-most k low
     by none e low =
         records-most (recordList (fileRecords file)) (omega (arith, records-length (fileRecords file), (records-whole file e) .1))

@@ -21,7 +21,7 @@ use Rattle.desk.specs.Desks.{freshDesk}
 use Rattle.runs.specs.Run.{State, Ran, alsoRan, run}
 use Rattle.replay.specs.Replay.{StepAnswer, answerIn, answersOf, isRecord, performStep, performAll, recordList, stepRecords, holdersAt, startOf, runFile, eachRecord}
 use Rattle.replay.proofs.Records.{records-length}
-use Rattle.texts.specs.Lines.{stepLine, stepLines, endLine, listing}
+use Rattle.texts.specs.Lines.{stepLine, stepLines, endLines, listing}
 use Rattle.texts.specs.Pages.{Page, pageOf, put}
 use Rattle.lines.specs.Pieces.{Written, writtenOf, recordsWritten, anew, partsWritten, shown, inPieces, joined, partsOf, partsIn}
 use Rattle.texts.proofs.Puts.{put-fits, put-within}
@@ -77,9 +77,9 @@ unfolding every
 every-apart p [] bs e = (refl, e)
 every-apart p (a ∷ xs) bs e = let more = every-apart p xs bs (and-right (p a) _ e) in (rw (and-left (p a) _ e, more .0) refl, more .1)
 
--- the lines of a run's steps from number k on, and its last line
+-- the lines of a run's steps from number k on, and those after them
 abbrev told : ℕ → Ran → List ℕ
-told k ran = stepLines k (answersOf ran) ++ endLine (holdersAt (ran .state .desk)) (ran .state .desk .waiting) (ran .state .desk .grants)
+told k ran = stepLines k (answersOf ran) ++ endLines (holdersAt (ran .state .desk)) (ran .state .desk .waiting) (ran .state .desk .grants)
 
 told-append : (s : State) (k : ℕ) (xs bs : List (List ℕ))
     → stepLines k (answersOf (performAll s xs)) ++ told (k + length (answersOf (performAll s xs))) (performAll ((performAll s xs) .state) bs) ≡ told k (performAll s (xs ++ bs))
@@ -87,7 +87,7 @@ told-append s k xs bs =
     let one : Ran = performAll s xs in
     let two : Ran = performAll (one .state) bs in
     let all : Ran = performAll s (xs ++ bs) in
-    let end : Desk → List ℕ = λ d. endLine (holdersAt d) (d .waiting) (d .grants) in
+    let end : Desk → List ℕ = λ d. endLines (holdersAt d) (d .waiting) (d .grants) in
     let join = ran-append xs bs s in
     sym (append-assoc (stepLines k (answersOf one)) (stepLines (k + length (answersOf one)) (answersOf two)) (end (two .state .desk)))
     ∙ ap (λ (l : List ℕ). l ++ end (two .state .desk)) (sym (lines-append k (answersOf one) (answersOf two)))
@@ -128,10 +128,10 @@ module _ (w : Written) (part : List (List ℕ)) (few : w .number + length part �
 
 pieces-told : (parts : List (List (List ℕ))) (w : Written) → w .number + length (joined parts) ≤ 18446744073709551615 → every isRecord (joined parts) ≡ true → AllBytes (joined parts)
     → Fine (w .state)
-    → 160 ≤ length (w .page .text) → Fitting (length (w .page .text)) parts → inPieces w parts ≡ told (w .number) (performAll (w .state) (stepRecords (joined parts)))
+    → 800 ≤ length (w .page .text) → Fitting (length (w .page .text)) parts → inPieces w parts ≡ told (w .number) (performAll (w .state) (stepRecords (joined parts)))
 unfolding inPieces joined run stepLines keep
 pieces-told [] w few right b f long fits =
-    shown-all (endLine (holdersAt (w .state .desk)) (w .state .desk .waiting) (w .state .desk .grants)) (w .page .text) (omega (arith, desk-end-most (w .state .desk) (f .desk)))
+    shown-all (endLines (holdersAt (w .state .desk)) (w .state .desk .waiting) (w .state .desk .grants)) (w .page .text) (omega (arith, desk-end-most (w .state .desk) (f .desk)))
 pieces-told (part ∷ parts) w few right b f long fits =
     let split = bytes-apart part (joined parts) b in
     let ok = every-apart isRecord part (joined parts) right in
@@ -153,7 +153,7 @@ pieces-told (part ∷ parts) w few right b f long fits =
 
 -- THE THEOREM: an opened file, its records in any parts that fit the text
 pub pieces-listing : (file : List ℕ) (n count total : ℕ) (records edges places text : List ℕ) (parts : List (List (List ℕ))) → Ready file n count total records edges places → Below 256 records
-    → joined parts ≡ recordList (take (16 * total) records) → 160 ≤ length text → Fitting (length text) parts
+    → joined parts ≡ recordList (take (16 * total) records) → 800 ≤ length text → Fitting (length text) parts
     → inPieces (writtenOf (lent n (take (2 * n) places) (take (2 * count) edges) count) (record { desk = freshDesk; number = 1; at = 0 }) (replicate n 0) text) parts ≡ listing (runFile file)
 pieces-listing file n count total records edges places text parts r b e long fits =
     let H : Hierarchy = lent n (take (2 * n) places) (take (2 * count) edges) count in

@@ -22,7 +22,7 @@ use Rattle.replay.specs.Replay.{StepAnswer, answerIn, answersOf, stateOf, start
 use Rattle.replay.specs.Replay.{performAll, holdersAt}
 use Rattle.replay.specs.Answers.{stepMeaning, Performs}
 use Rattle.lines.specs.declared.Progress.{Progress}
-use Rattle.texts.specs.Lines.{stepLine, stepLines, endLine}
+use Rattle.texts.specs.Lines.{stepLine, stepLines, endLines}
 use Rattle.texts.specs.Pages.{Page, pageOf, put, Puts}
 use Rattle.lines.specs.Pieces.{following, Written, writtenOf, stepWritten, recordWritten, recordsWritten}
 use Rattle.lines.specs.Inner.{RunListed}
@@ -129,11 +129,11 @@ module _ where
           (some-ran more)
       by false e more same = same
 
--- A WHOLE RUN: the lines of the steps, and the last line
+-- A WHOLE RUN: the lines of the steps, and those after them
 module _ (H : Hierarchy) (n : ℕ) (rs : List (List ℕ)) (text : List ℕ) {q start : Progress} {values′ text₁ text₂ : List ℕ} {r : ℕ} where
   pub run-listed : 1 + length rs ≤ 18446744073709551615 → every isRecord rs ≡ true → start ≡ record { desk = freshDesk; number = 1; at = 0 }
       → writtenOf H q values′ text₁ ≡ recordsWritten (writtenOf H start (replicate n 0) text) rs
-      → Puts (q .at) (endLine (holdersAt (q .desk)) (q .desk .waiting) (q .desk .grants)) text₁ text₂ r → RunListed (performAll (startOf H n) (stepRecords rs)) text values′ text₂ r
+      → Puts (q .at) (endLines (holdersAt (q .desk)) (q .desk .waiting) (q .desk .grants)) text₁ text₂ r → RunListed (performAll (startOf H n) (stepRecords rs)) text values′ text₂ r
   run-listed few right s e p =
       let fresh : Written = writtenOf H (record { desk = freshDesk; number = 1; at = 0 }) (replicate n 0) text in
       let whole : Ran = performAll (startOf H n) (stepRecords rs) in
@@ -141,7 +141,7 @@ module _ (H : Hierarchy) (n : ℕ) (rs : List (List ℕ)) (text : List ℕ) {q s
       let f = e ∙ ap (λ (x : Progress). recordsWritten (writtenOf H x (replicate n 0) text) rs) s in
       let state = ap (λ (x : Written). x .state) f ∙ all .0 in
       let lines = ap (λ (x : Written). x .page) f ∙ all .1 in
-      let end : Desk → List ℕ = λ d. endLine (holdersAt d) (d .waiting) (d .grants) in (
+      let end : Desk → List ℕ = λ d. endLines (holdersAt d) (d .waiting) (d .grants) in (
         ap (λ (x : State). x .values) state,
         p
             ∙ ap (put (end (q .desk))) lines

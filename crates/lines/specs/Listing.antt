@@ -17,9 +17,9 @@ abbrev pub valuesOf : Answer FileRun → List ℕ
 valuesOf (done run) = run .values
 valuesOf (denied k) = []
 
--- 1: a lent buffer is shorter than needed, which is 256 values, and 160 bytes for each of 3,968 steps and the last line
+-- 1: a lent buffer is shorter than needed, which is 256 values, and 160 bytes for each of 3,968 steps and for `end`, and 20 for each of 32 parties
 abbrev pub listingRefusal : List ℕ → List ℕ → Option ℕ
-listingRefusal values text = refusal (1 when (ltb (length values) 256 || ltb (length text) 635040) ∷ [])
+listingRefusal values text = refusal (1 when (ltb (length values) 256 || ltb (length text) 635680) ∷ [])
 
 -- what listing leaves: its answer, a count of bytes, and the lent places
 pub record ListingResult : Type 0 where

@@ -9,7 +9,7 @@ use Rattle.locks.specs.Lent.{Hierarchy}
 use Rattle.runs.specs.Run.{State}
 use Rattle.replay.specs.Replay.{stateOf, perform, holdersAt, recordList}
 use Rattle.lines.specs.declared.Progress.{Progress}
-use Rattle.texts.specs.Lines.{stepLine, endLine}
+use Rattle.texts.specs.Lines.{stepLine, endLines}
 use Rattle.texts.specs.Pages.{Page, pageOf, put}
 
 -- the number of the step after step k; the greatest number of 64 bits has none after it
@@ -53,15 +53,15 @@ unfoldable pub partsWritten : Written → List (List (List ℕ)) → Written
 partsWritten w [] = w
 partsWritten w (part ∷ parts) = partsWritten (recordsWritten (anew w) part) parts
 
--- and then the last line
+-- and then the lines after the steps
 abbrev pub endWritten : Written → Page
-endWritten w = put (endLine (holdersAt (w .state .desk)) (w .state .desk .waiting) (w .state .desk .grants)) (pageOf (w .page .text) 0)
+endWritten w = put (endLines (holdersAt (w .state .desk)) (w .state .desk .waiting) (w .state .desk .grants)) (pageOf (w .page .text) 0)
 
 -- what was put into a text
 abbrev pub shown : Page → List ℕ
 shown p = take (p .at) (p .text)
 
--- of each part, and of the last line, what is shown: all of it, one behind the other
+-- of each part, and of the lines after the steps, what is shown: all of it, one behind the other
 unfoldable pub inPieces : Written → List (List (List ℕ)) → List ℕ
 inPieces w [] = shown (endWritten w)
 inPieces w (part ∷ parts) = shown ((recordsWritten (anew w) part) .page) ++ inPieces (recordsWritten (anew w) part) parts

@@ -19,8 +19,8 @@ use opening::OpenAnswer;
 // The values of a file are at most 256.
 pub const VALUES: usize = 256;
 
-// Its listing has at most 635,040 bytes.
-pub const TEXT_BYTES: usize = 635040;
+// Its listing has at most 635,680 bytes.
+pub const TEXT_BYTES: usize = 635680;
 
 // What listing a file answers: how many bytes the listing has, or refused.
 pub enum ListingAnswer {

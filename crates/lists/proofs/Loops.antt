@@ -13,7 +13,7 @@ use native.Mathlib.Omega.{arith}
 use borrow.Author.Fill.{fill-more}
 use lib.ListN.{length, getD, take, drop, set, replicate, length-set, drop-of-length-le, length-map}
 use lib.Seq.{take-suc, drop-cons, drop-length, take-at, length-take-le}
-use Rattle.lists.specs.Lists.{every, any, count, keep}
+use Rattle.lists.specs.Lists.{every, any, count, keep, sum}
 use Rattle.lists.proofs.Bools.{bool}
 
 -- the length of an array that is a field, from what owning the struct tells: `search (field-length, needs)`
@@ -66,6 +66,16 @@ module _ {A : Type 0} where
   pub count-end : (p : A → Bool) (l : List A) (i : ℕ) (n : ℕ) {r : ℕ} → n + count p (drop i l) ≡ r → length l ≤ i → n ≡ r
   unfolding count
   count-end p l i n inv h = let q = rw (drop-of-length-le l h) at inv in omega arith
+
+-- a sum, with the invariant `n + sum (drop i l) ≡ r`
+module _ (l : List ℕ) (i n : ℕ) {r : ℕ} (inv : n + sum (drop i l) ≡ r) where
+  pub sum-next : {x : ℕ} → getD l i 0 ≡ x → i < length l → n + x + sum (drop (i + 1) l) ≡ r
+  unfolding sum
+  sum-next at h = let e = ap sum (drop-step l i 0 at h) in omega (arith, inv, e)
+
+  pub sum-end : length l ≤ i → n ≡ r
+  unfolding sum
+  sum-end h = let e = ap sum (drop-of-length-le l h) in omega (arith, inv, e)
 
 -- no more are kept than there are
 pub keep-few : {A : Type 0} (p : A → Bool) (l : List A) → length (keep p l) ≤ length l

@@ -71,6 +71,11 @@ unfoldable pub greatest : List ℕ → ℕ
 greatest [] = 0
 greatest (x ∷ xs) = foldFrom max x xs
 
+-- the sum of a list
+unfoldable pub sum : List ℕ → ℕ
+sum [] = 0
+sum (x ∷ xs) = x + sum xs
+
 -- each element is below the bound, and so is what stands past the end: of a slice of bytes the bound is 256
 abbrev pub Below : ℕ → List ℕ → Type 0
 Below k xs = (i : ℕ) → getD xs i 0 < k

@@ -172,12 +172,12 @@ isHolding (Holding l) = true
 abbrev pub holdersAt : Desk → ℕ
 holdersAt d = count (λ e. isHolding (e .stage)) (d .entries)
 
--- what a file that is not refused gives: its steps' answers, the end's three numbers, and the values
+-- what a file that is not refused gives: its steps' answers, holders, waiters and each party's grants at the end, and the values
 pub record FileRun : Type 0 where
   pub answers : List StepAnswer
   pub holders : ℕ
   pub waiters : ℕ
-  pub grants : ℕ
+  pub grants : List ℕ
   pub values : List ℕ
 
 -- what a run comes to

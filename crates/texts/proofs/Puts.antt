@@ -17,6 +17,7 @@ use Rattle.lists.proofs.Loops.{drop-step}
 use Rattle.replay.specs.declared.Outcome.{Outcome}
 use Rattle.replay.specs.Answers.{stepMeaning}
 use Rattle.texts.specs.Text.{decimalOf, decimal, space, spaced, answerText}
+use Rattle.texts.specs.Lines.{lineIfGranted, partyLines}
 use Rattle.texts.specs.Pages.{Page, pageOf, putByte, put, Puts}
 
 -- two puts, one behind the other, are one
@@ -156,6 +157,16 @@ spaced-step l i at h = ap spaced (drop-step l i 0 at h)
 pub spaced-end : (l : List ℕ) (i : ℕ) → length l ≤ i → spaced (drop i l) ≡ []
 unfolding spaced
 spaced-end l i h = ap spaced (drop-of-length-le l h)
+
+-- the lines of the parties from the one at place i on: the first of them, and the others
+pub party-lines-step : (l : List ℕ) (i : ℕ) {x : ℕ} → getD l i 0 ≡ x → i < length l → partyLines i (drop i l) ≡ lineIfGranted i x ++ partyLines (i + 1) (drop (i + 1) l)
+unfolding partyLines
+party-lines-step l i {x} at h =
+    ap (partyLines i) (drop-step l i 0 at h) ∙ ap (λ (k : ℕ). lineIfGranted i x ++ partyLines k (drop (i + 1) l)) (sym (add-one i))
+
+pub party-lines-end : (l : List ℕ) (i : ℕ) → length l ≤ i → partyLines i (drop i l) ≡ []
+unfolding partyLines
+party-lines-end l i h = ap (partyLines i) (drop-of-length-le l h)
 
 -- an answer, by its case
 pub told : (parties : List ℕ) {o o′ : Outcome} (at : ℕ) (text : List ℕ) {text′ : List ℕ} {r : ℕ} → o ≡ o′ → Puts at (answerText (stepMeaning o′ parties)) text text′ r

@@ -27,9 +27,13 @@ unfoldable pub spaced : List ℕ → List ℕ
 spaced [] = []
 spaced (x ∷ xs) = (space ++ decimal x) ++ spaced xs
 
--- the last line's word: `end `
+-- the word of the line after the steps: `end `
 abbrev pub endWord : List ℕ
 endWord = 101 ∷ 110 ∷ 100 ∷ 32 ∷ []
+
+-- the word of a party's line: `party `
+abbrev pub partyWord : List ℕ
+partyWord = 112 ∷ 97 ∷ 114 ∷ 116 ∷ 121 ∷ 32 ∷ []
 
 -- THE ANSWERS: a word for each, in ASCII, with the space where a number follows; then a row for each. `granted `
 abbrev pub grantedWord : List ℕ

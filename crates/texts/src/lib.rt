@@ -1,4 +1,4 @@
-// The lines of a listing and of the report, put into lent bytes as far as they fit: numbers, words, a step's line, the last line.
+// The lines of a listing and of the report, put into lent bytes as far as they fit: numbers, words, a step's line, the lines after the steps.
 ghost use mathlib.Core.Path.{_≡_};
 ghost use mathlib.Core.List.{_++_};
 ghost use Prim.Native.Nat.{_-_};
@@ -8,7 +8,7 @@ ghost use Rattle.lists.specs.Answer.{refused};
 ghost use Rattle.replay.specs.Answers.{stepMeaning};
 ghost use Rattle.replay.specs.Replay.{isHolding, holdersAt};
 ghost use Rattle.texts.specs.Text.{decimal, space, leftWord, spaced, answerText};
-ghost use Rattle.texts.specs.Lines.{stepLine, endLine, listing, reportLine};
+ghost use Rattle.texts.specs.Lines.{stepLine, endLine, lineIfGranted, partyLines, endLines, listing, reportLine};
 ghost use Rattle.texts.specs.Pages.{Puts};
 use arrivals::PARTIES;
 use desk::Desk;
@@ -145,16 +145,49 @@ fn holders(desk: Desk) -> usize
     count
 }
 
-// Puts the last line.
+// Puts the line `end`: holders, waiters and the sum of the grants.
+fn put_end_line(holders: usize, waiting: usize, grants: u64, at: usize, text: &mut [u8]) -> usize
+    ensures { λ r. ⌜ Puts at (endLine holders waiting grants) (now (text .entry)) (now (text .exit)) r ⌝ }
+{
+    let first = put_word_number(b"end ", holders as u64, at, text);
+    let second = put_word_number(b" ", waiting as u64, first, text);
+    let third = put_word_number(b" ", grants, second, text);
+    put_bytes(b"\n", third, text)
+}
+
+// Puts the line of a party with grants; nothing for a party without.
+fn put_party_line(party: usize, count: u32, at: usize, text: &mut [u8]) -> usize
+    ensures { λ r. ⌜ Puts at (lineIfGranted party count) (now (text .entry)) (now (text .exit)) r ⌝ }
+{
+    if count == 0 {
+        return at;
+    }
+    let first = put_word_number(b"party ", party as u64, at, text);
+    let second = put_word_number(b" ", count as u64, first, text);
+    put_bytes(b"\n", second, text)
+}
+
+// Puts the lines of the parties with grants, lowest party first.
+fn put_party_lines(grants: &[u32], at: usize, text: &mut [u8]) -> usize
+    ensures { λ r. ⌜ Puts at (partyLines 0 (now (grants .entry))) (now (text .entry)) (now (text .exit)) r ⌝ }
+{
+    let mut here = at;
+    let mut party = 0;
+    while party < grants.len() {
+        here = put_party_line(party, grants[party], here, text);
+        party += 1;
+    }
+    here
+}
+
+// Puts the lines after the steps: at most 800 bytes.
 pub fn put_end(desk: Desk, at: usize, text: &mut [u8]) -> usize
-    ensures { λ r. ⌜ Puts at (endLine (holdersAt desk) (desk .waiting) (desk .grants)) (now (text .entry)) (now (text .exit)) r ⌝ }
+    ensures { λ r. ⌜ Puts at (endLines (holdersAt desk) (desk .waiting) (desk .grants)) (now (text .entry)) (now (text .exit)) r ⌝ }
 {
     let waiting = desk.waiting;
     let grants = desk.grants;
-    let first = put_word_number(b"end ", holders(desk) as u64, at, text);
-    let second = put_word_number(b" ", waiting as u64, first, text);
-    let third = put_word_number(b" ", grants as u64, second, text);
-    put_bytes(b"\n", third, text)
+    let behind = put_end_line(holders(desk), waiting, grants::all_grants(grants), at, text);
+    put_party_lines(&grants, behind, text)
 }
 
 // Puts the one line of a refused file or hierarchy.

@@ -1,17 +1,18 @@
 -- THE THEOREMS OF THE DESK, in full, in the order of the customer's demands. Each is proved by citing the one that a crate below proves: with a hypothesis
--- more or a clause less there it would no longer fit. What the terms mean is in the definitions, crates/*/specs; what each function does is its contract, in
--- crates/*/src, where demand 1 is carried: no public function has a `requires`, and each result is equated with a definition. Assumes nothing.
-use mathlib.Core.Path.{_≡_, refl, sym, ap}
+-- more or a clause less there it would no longer fit. Some of point 4 no crate below states: they follow here, in a few lines, from laws and definitions below.
+-- What the terms mean is in the definitions, crates/*/specs; what each function does is its contract, in crates/*/src, where demand 1 is carried: no public
+-- function has a `requires`, and each result is equated with a definition. Assumes nothing.
+use mathlib.Core.Path.{_≡_, refl, sym, ap, _∙_}
 use mathlib.Core.Logic.{_⊎_}
 use mathlib.Core.List.{List, [], _∷_, _++_, map}
-use mathlib.Core.Bool.{true, false, cond}
+use mathlib.Core.Bool.{Bool, true, false, cond}
 use mathlib.Core.Option.{none}
-use Prim.Native.Nat.{ℕ, _*_, _≤_, _<_, min, max}
+use Prim.Native.Nat.{ℕ, zero, suc, _*_, _≤_, _<_, min, max}
 use native.Mathlib.Omega.{arith}
-use lib.Dec.{ltb}
-use borrow.Author.Tests.{lt-ltb}
+use lib.Dec.{eqb, ltb}
+use borrow.Author.Tests.{lt-ltb, ne-eqb}
 use lib.ListN.{length, getD, take, replicate}
-use Rattle.lists.specs.Lists.{every, any, count, over, Below}
+use Rattle.lists.specs.Lists.{every, any, count, sum, over, Below}
 use Rattle.lists.specs.Answer.{done, refused}
 use Rattle.hierarchy.specs.Hierarchy.{edgesOf, Edge, Reach, reach, Legal}
 use Rattle.intervals.specs.Numbering.{numbering}
@@ -23,6 +24,7 @@ use Rattle.blocks.specs.File.{wholeBlocks, readFile, writeFile}
 use Rattle.locks.specs.declared.Mode.{Mode}
 use Rattle.locks.specs.declared.Stage.the-variants.{Waiting, Holding}
 use Rattle.locks.specs.Lent.{Hierarchy, lent, lowIn, highIn, coverIn, tablesShort, lockOn}
+use Rattle.grants.specs.Grants.{noGrants, countGrants}
 use Rattle.desk.specs.declared.Desk.{Desk}
 use Rattle.desk.specs.Desks.{freshDesk, stageAt}
 use Rattle.desk.specs.Sound.{soundDesk}
@@ -38,7 +40,7 @@ use Rattle.file_laws.specs.Files.{eventsOf}
 use Rattle.replay.specs.Replay.{waits, stored, left, FileRun, granted as admitted, refused as denied, recordList, stepRecords, sizeOf, edgeTable, edgeCountOf, answersOf}
 use Rattle.replay.specs.Replay.{performAll, runFile}
 use Rattle.blocks.specs.File.{fileRecords}
-use Rattle.examples.specs.Cases.{intervals, cover, apart, listing, passes}
+use Rattle.examples.specs.Cases.{intervals, cover, apart, listing, withGrants, passes}
 use Rattle.examples.specs.Table.{T, shared, bytes16, fileT, fileShared, starred}
 use Rattle.interval_laws.specs.Covers.{running}
 use Rattle.trees.specs.Tree.{parentCount}
@@ -46,6 +48,7 @@ use Rattle.reach_sets.specs.Sets.{has, setAt, setTable}
 use Rattle.reach_sets.specs.Plain.{plainStep}
 use Rattle.needless.specs.Waits.{noWaits, isWaits, reachesMeet, waitsOf}
 use Rattle.needless_laws.specs.Visits.{OneEach}
+use Rattle.lists.proofs.Marks.{zero-at}
 use Rattle.lists.proofs.Members.{In}
 use Rattle.interval_laws.proofs.Laws as laws
 use Rattle.intervals.proofs.Bounds as bounds-laws
@@ -55,6 +58,8 @@ use Rattle.block_laws.proofs.Laws as file-forms
 use Rattle.runs.proofs.Runs as ran-laws
 use Rattle.history.proofs.Serializable as serial
 use Rattle.history.proofs.Results as results
+use Rattle.history.proofs.Grants as counted
+use Rattle.grants.proofs.Counts as sum-laws
 use Rattle.file_laws.proofs.Laws as files
 use Rattle.soundness.proofs.Laws as unchanged
 use Rattle.soundness.proofs.Kept as kept
@@ -62,7 +67,7 @@ use Rattle.soundness.proofs.NeverTen as never
 use Rattle.soundness.proofs.Covers as entered
 use Rattle.opening.specs.declared.OpenAnswer.the-variants.{Opened}
 use Rattle.opening.specs.Opening.{openFile}
-use Rattle.texts.specs.Lines.{listing as listingOf}
+use Rattle.texts.specs.Lines.{stepLines, endLine, partyLine, partyLines, listing as listingOf}
 use Rattle.lines.specs.Pieces.{writtenOf, inPieces, partsIn}
 use Rattle.opening.proofs.Opens as opens
 use Rattle.lines.proofs.Fits as fits
@@ -254,7 +259,7 @@ read-then-write-room : (file room : List ℕ) (n : ℕ) (room′ : List ℕ) →
 read-then-write-room = file-forms.read-then-write-room
 
 -- DEMAND 2: THE LISTING. It fits the room that listing asks for,
-listing-most : (file : List ℕ) → Below 256 file → length (listingOf (runFile file)) ≤ 635040
+listing-most : (file : List ℕ) → Below 256 file → length (listingOf (runFile file)) ≤ 635680
 listing-most = fits.listing-most
 
 -- and the lines of an opened file's records, 100 at a time into 16,000 bytes (the parts that main.rt takes), are one behind the other the listing, to the byte
@@ -517,8 +522,50 @@ bounds-only table names b (each, low, high) =
 same-bounds : (n : ℕ) (table names others : List ℕ) → callInterval table names ≡ callInterval table others → coverOf n table names ≡ coverOf n table others
 same-bounds = cover-laws.same-bounds
 
--- THE STARRED CASES, with the papers' figures, those of {8} and of the listing as document 02's point 1 has them: each passes, by computation. Table T and the
--- table of the ninth case
+-- 02, POINT 4. GRANTS BY PARTY. After any list of steps, refused ones included, from any hierarchy, desk and values, the counts are those before it with one
+-- more, up to 4,294,967,295, for each party granted, in the order of granting,
+counts-after : (steps : List Step) (s : State) → let ran = run steps s in ran .state .desk .grants ≡ countGrants (s .desk .grants) (grantedIn (ran .events))
+counts-after = counted.run-counts
+
+-- so that from a fresh desk each of the 32 parties has as many as it was granted visits, up to 4,294,967,295
+party-counts : (H : Hierarchy) (values : List ℕ) (steps : List Step) (party : ℕ) → party < 32 → let ran = run steps (start H values) in
+    getD (ran .state .desk .grants) party 0 ≡ min (count (λ other. eqb other party) (grantedIn (ran .events))) 4294967295
+party-counts H values steps party h =
+    let ran = run steps (start H values) in
+    let none : getD noGrants party 0 ≡ 0 = zero-at 32 party in
+    let at = counted.grants-at (grantedIn (ran .events)) noGrants party h (omega (arith, none)) in
+    omega (arith, ap (λ (g : List ℕ). getD g party 0) (counts-after steps (start H values)), at, none)
+
+-- 32 counts of 32 bits sum up to a number of 64 bits, and to 137,438,953,440 at most
+counts-sum : (grants : List ℕ) → length grants ≡ 32 → Below 4294967296 grants → sum grants ≤ 137438953440
+counts-sum grants long b = omega (arith, long, sum-laws.sum-most grants b)
+
+-- a sound desk asks nothing of them
+counts-unasked : (H : Hierarchy) (d : Desk) (grants : List ℕ)
+    → soundDesk H (record { entries = d .entries; queue = d .queue; waiting = d .waiting; grants = grants }) ≡ soundDesk H d
+counts-unasked H d grants = refl
+
+-- in the listing of a file that is not refused, behind the lines of the steps, the third number of `end` is their sum, and the lines of the parties stand behind it
+listing-end : (ran : FileRun) → listingOf (done ran) ≡ stepLines 1 (ran .answers) ++ (endLine (ran .holders) (ran .waiters) (sum (ran .grants)) ++ partyLines 0 (ran .grants))
+listing-end ran = refl
+
+-- and these are the lines of the parties with grants, lowest party first: `withGrants`, by which the cases below say who has grants, has each such party in turn and
+-- behind it its count
+unfoldable linesOf : List ℕ → List ℕ
+linesOf [] = []
+linesOf (party ∷ []) = []
+linesOf (party ∷ count ∷ more) = partyLine party count ++ linesOf more
+
+party-lines : (party : ℕ) (grants : List ℕ) → partyLines party grants ≡ linesOf (withGrants party grants)
+unfolding partyLines withGrants linesOf
+party-lines party [] = refl
+party-lines party (zero ∷ grants) = party-lines (suc party) grants
+party-lines party (suc count ∷ grants) =
+    ap (λ (b : Bool). cond b [] (partyLine party (suc count)) ++ partyLines (suc party) grants) (ne-eqb (suc count) 0 (λ e. omega arith))
+    ∙ ap (λ (more : List ℕ). partyLine party (suc count) ++ more) (party-lines (suc party) grants)
+
+-- THE STARRED CASES, with the papers' figures, those of {8}, of the ninth case and of the listing as document 02's points 1 and 4 have them: each passes, by computation. Table T and
+-- the table of the ninth case
 tables : (T ≡ 0 ∷ 1 ∷ 0 ∷ 2 ∷ 1 ∷ 3 ∷ 1 ∷ 4 ∷ 2 ∷ 5 ∷ 2 ∷ 6 ∷ 5 ∷ 7 ∷ 6 ∷ 7 ∷ 6 ∷ 8 ∷ 7 ∷ 9 ∷ 9 ∷ 7 ∷ [])
     × (shared ≡ 0 ∷ 1 ∷ 0 ∷ 2 ∷ 0 ∷ 3 ∷ 0 ∷ 4 ∷ 4 ∷ 1 ∷ 4 ∷ 3 ∷ [])
 tables = (refl, refl)
@@ -548,10 +595,10 @@ all-starred : every passes
     ∷ cover 10 T (8 ∷ []) 8
     ∷ intervals 1 [] (1 ∷ 1 ∷ [])
     ∷ intervals 4 (0 ∷ 1 ∷ 1 ∷ 3 ∷ 1 ∷ 2 ∷ 2 ∷ 1 ∷ []) (1 ∷ 2 ∷ 1 ∷ 2 ∷ 1 ∷ 2 ∷ 1 ∷ 1 ∷ [])
-    ∷ apart 5 shared 4 2 1 3 2 2 fileShared (admitted 0 ∷ waits ∷ []) 1 1 1
+    ∷ apart 5 shared 4 2 1 3 2 2 fileShared (admitted 0 ∷ waits ∷ []) 1 1 1 (1 ∷ 1 ∷ [])
     ∷ listing fileT
     (admitted 5 ∷ admitted 8 ∷ admitted 3 ∷ waits ∷ stored ∷ left (4 ∷ []) ∷ denied 16 ∷ waits ∷ denied 16 ∷ left [] ∷ [])
-    3 0 4
+    3 0 4 (1 ∷ 1 ∷ 2 ∷ 1 ∷ 3 ∷ 1 ∷ 4 ∷ 1 ∷ [])
     ∷ []) ≡ true
 unfolding starred
 all-starred = computed.all-starred

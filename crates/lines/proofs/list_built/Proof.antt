@@ -1,4 +1,4 @@
--- `list_built` meets its contract: from zeros, the steps, and the last line. Assumes nothing.
+-- `list_built` meets its contract: from zeros, the steps, and the lines after them. Assumes nothing.
 use mathlib.Core.Path.{ap, _∙_}
 use mathlib.Core.List.{List}
 use Prim.Native.Nat.{ℕ}

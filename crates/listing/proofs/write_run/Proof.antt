@@ -1,4 +1,4 @@
--- `write_run` meets its contract: behind the parts stands the last line, and what was put is within the text. Assumes nothing.
+-- `write_run` meets its contract: behind the parts stand the lines after the steps, and what was put is within the text. Assumes nothing.
 use mathlib.Core.Path.{sym, ap, _∙_}
 use Prim.Native.Nat.{_≤_}
 use native.Mathlib.Omega.{arith}
@@ -7,7 +7,7 @@ use lib.Seq.{length-take-le}
 use borrow.Author.Needs.{needs}
 use Rattle.desk.specs.declared.Desk.{Desk}
 use Rattle.replay.specs.Replay.{holdersAt}
-use Rattle.texts.specs.Lines.{endLine}
+use Rattle.texts.specs.Lines.{endLines}
 use Rattle.texts.proofs.Puts.{puts-within}
 use Rattle.texts.specs.Pages.{Page}
 use Rattle.lines.specs.Pieces.{Written, endWritten}
@@ -23,13 +23,13 @@ put-end-requires c κs = search needs
 slice-reshare-prefix-write-all : tie.Need-slice-reshare-prefix-write-all
 slice-reshare-prefix-write-all c =
     let p = c .before .before .put-end in let s = c .before .before .before .before .before .before .before .before .before .before .write-steps in let d : Desk = s .result .progress .desk in
-    let h : p .result ≤ length (p .last .1 .1 .0) = puts-within 0 (endLine (holdersAt d) (d .waiting) (d .grants)) (s .last .1 .1 .1 .1 .1 .1 .0) (omega arith) (p .ensures) in h
+    let h : p .result ≤ length (p .last .1 .1 .0) = puts-within 0 (endLines (holdersAt d) (d .waiting) (d .grants)) (s .last .1 .1 .1 .1 .1 .1 .0) (omega arith) (p .ensures) in h
 
 slice-aggregate-write-all : tie.Need-slice-aggregate-write-all
 slice-aggregate-write-all c =
     let p = c .before .before .before .put-end in
     let s = c .before .before .before .before .before .before .before .before .before .before .before .write-steps in let d : Desk = s .result .progress .desk in
-    let h : p .result ≤ length (p .last .1 .1 .0) = puts-within 0 (endLine (holdersAt d) (d .waiting) (d .grants)) (s .last .1 .1 .1 .1 .1 .1 .0) (omega arith)
+    let h : p .result ≤ length (p .last .1 .1 .0) = puts-within 0 (endLines (holdersAt d) (d .waiting) (d .grants)) (s .last .1 .1 .1 .1 .1 .1 .0) (omega arith)
     (p .ensures) in sym (length-take-le _ _ h)
 
 write-all-requires : tie.Need-write-all-requires

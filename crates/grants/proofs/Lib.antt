@@ -1,0 +1,2 @@
+-- What the proofs of several functions, and of the layers above, use.
+pub mod Counts
