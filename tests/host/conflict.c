@@ -1,4 +1,4 @@
-/* Compares hold_conflict with a plain version written here from the rule: numbers shared one by one, not by the ends.
+/* Compares hold_conflict with a plain version written here from the rule: modes by a table, numbers shared one by one and not by the ends.
    Prints the first difference and the count of comparisons; exits 1 on any difference. It is C and C++. */
 #include "record_desk.h"
 #include "record_desk.h" /* once more: the header may be included twice */
@@ -22,10 +22,10 @@ static int in_range(uint32_t end)
     return 1 <= end && end <= 256;
 }
 
-/* Mode 1 or 2, an interval within 1 to 256, low not above high. */
+/* Mode 1, 2 or 3, an interval within 1 to 256, low not above high. */
 static int is_hold(struct hold h)
 {
-    return (h.mode == 1 || h.mode == 2) && in_range(h.low) && in_range(h.high) && !(h.low > h.high);
+    return 1 <= h.mode && h.mode <= 3 && in_range(h.low) && in_range(h.high) && !(h.low > h.high);
 }
 
 static int has(struct hold h, uint32_t number)
@@ -33,12 +33,19 @@ static int has(struct hold h, uint32_t number)
     return h.low <= number && number <= h.high;
 }
 
-/* Two holds conflict if their intervals share a number and not both are reading. */
+/* Whether holds of two modes exclude each other where their intervals share a number: two readers do not, nor do two adders. */
+static const int excludes[3][3] = {
+    /* reading, writing, adding */
+    {0, 1, 1}, /* reading */
+    {1, 1, 1}, /* writing */
+    {1, 1, 0}, /* adding */
+};
+
 static uint32_t plain(struct hold a, struct hold b)
 {
     if (!is_hold(a) || !is_hold(b))
         return 10;
-    if (a.mode == 1 && b.mode == 1)
+    if (!excludes[a.mode - 1][b.mode - 1])
         return 0;
     for (uint32_t number = 1; number <= 256; number++)
         if (has(a, number) && has(b, number))
@@ -59,7 +66,7 @@ static void compare(struct hold a, struct hold b)
 /* Every pair of modes, on two intervals. */
 static void all_modes(uint32_t low, uint32_t high, uint32_t low2, uint32_t high2)
 {
-    static const uint32_t modes[] = {0, 1, 2, 3, 256, 65537, UINT32_MAX};
+    static const uint32_t modes[] = {0, 1, 2, 3, 4, 5, 255, 256, 257, 259, 65537, 65539, UINT32_MAX};
     enum { MODES = sizeof modes / sizeof modes[0] };
 
     for (int i = 0; i < MODES; i++)

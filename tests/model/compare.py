@@ -6,7 +6,7 @@
 LISTING is the program. It prints the seed, how often each answer and each refusal was seen, and the first difference; it exits 1 where there is
 one, or where a kind of answer that the paper has was never seen, or a cover that was picked by its number from equally narrow records with
 different intervals, or one of the ways in which a party is granted, or a party that came and was never granted, or a listing with a line
-for each party, or one with none. --keep writes the file that differs into DIR.
+for each party, or one with none, or one of the cases of adding visits in ADDS, or a wrong kind or mode. --keep writes the file that differs into DIR.
 Of each listing the line `end` and those behind it are also worked out from the answers before them.
 Files are valid, of the wrong length, damaged with and without a check that was made right again (in all blocks, or in some), misordered,
 of legal and illegal hierarchies, some with many intervals of one width, and now and then of 128 or 129 blocks; most steps take effect, since
@@ -105,26 +105,31 @@ def spoiled(rnd, n, edges):
 
 # ---- steps
 
+MODES = (model.READING, model.WRITING, model.ADDING)
+ALLOWED = {model.GET: (model.READING, model.WRITING), model.PUT: (model.WRITING,), model.ADD: (model.ADDING,)}   # in visits of which modes
+
+
 def steps(rnd, h, count):
     """Steps that mostly take effect, since the model's desk says who is where; one in eight is picked blindly."""
     desk, out = model.Desk(h), []
-    most = rnd.choice((2, 4, 8, 32))
+    most, modes = rnd.choice((2, 4, 8, 32)), rnd.choice((MODES, MODES, (1, 2), (1, 3, 3, 3), (2, 3, 3, 3), (3,)))
     while len(out) < count:
         holding, inside = list(desk.holds), [*desk.holds, *desk.calls]
-        writing = [p for p in holding if desk.holds[p][0] == model.WRITING]
+        able = {kind: [p for p in holding if desk.holds[p][0] in ALLOWED[kind]] for kind in ALLOWED}
         away = [p for p in range(32) if p not in inside]
         party, node = rnd.randrange(34 if rnd.random() < 0.9 else 256), rnd.randrange(h.n if rnd.random() < 0.95 else 256)
         if inside and rnd.random() < 0.7:
             party = rnd.choice(inside)
         blind, choice = rnd.random() < 0.125, rnd.random()
+        kind = model.ENTER if choice < 0.35 else rnd.choice([*ALLOWED]) if choice < 0.75 else model.LEAVE
         if not blind:
             if not holding:
-                choice = 0
-            elif choice < 0.35 and len(inside) >= most:
-                choice = 1
-            elif 0.55 <= choice < 0.75 and not writing:
-                choice = 0.5
-        if choice < 0.35:
+                kind = model.ENTER
+            elif kind == model.ENTER and len(inside) >= most:
+                kind = model.LEAVE
+            elif kind in ALLOWED and not able[kind]:
+                kind = rnd.choice([k for k in ALLOWED if able[k]])
+        if kind == model.ENTER:
             if not blind:
                 party = rnd.choice(away)
             names = [rnd.randrange(h.n) for _ in range(rnd.choice((1, 1, 1, 2, 3, 8)))]
@@ -132,21 +137,18 @@ def steps(rnd, h, count):
             next_to = [x for x in range(h.n) if node < h.n and h.low[x] == h.high[node] + 1]
             if len(names) > 1 and next_to and rnd.random() < 0.4:
                 names = [node, rnd.choice(next_to)]
-            r = record(3, party, rnd.choice((1, 2)), len(names), *names)
-        elif choice < 0.75:
+            r = record(kind, party, rnd.choice(modes), len(names), *names)
+        elif kind in ALLOWED:
             if not blind:
-                party = rnd.choice(holding if choice < 0.55 else writing)
+                party = rnd.choice(able[kind] if rnd.random() < 0.95 else holding)
                 cover = desk.holds[party][1]
                 node = rnd.choice([x for x in range(h.n) if h.contains(cover, h.low[x], h.high[x])])
-            if choice < 0.55:
-                r = record(4, party, node)
-            else:
-                value = rnd.choice((0, 1, rnd.getrandbits(64), 2**64 - 1, rnd.randrange(1000)))
-                r = record(5, party, node, 0, *value.to_bytes(8, "little"))
+            number = rnd.choice((0, 1, rnd.getrandbits(64), 2**64 - 1, rnd.randrange(1000), 2**64 - 1 - rnd.randrange(1000)))
+            r = record(kind, party, node, *((0, *number.to_bytes(8, "little")) if kind != model.GET else ()))
         else:
             if not blind:
                 party = rnd.choice(holding if rnd.random() < 0.7 else inside)
-            r = record(6, party)
+            r = record(kind, party)
         out.append(r)
         try:
             model.perform(desk, r)
@@ -159,7 +161,7 @@ def steps(rnd, h, count):
 
 def damaged(rnd, data, records):
     """What was done, and the bytes."""
-    kind, out = rnd.randrange(8), bytearray(data)
+    kind, out = rnd.randrange(9), bytearray(data)
 
     def block():
         return 512 * rnd.randrange(len(out) // 512)
@@ -178,14 +180,23 @@ def damaged(rnd, data, records):
         a, b = rnd.randrange(len(moved)), rnd.randrange(len(moved))
         moved[a], moved[b] = moved[b], moved[a]
         return "misordered", blocks(moved)
-    if kind == 4:
+    if kind == 4:   # most often the kind, or the mode, next to the right ones
+        wrong, enters = list(records), [k for k, r in enumerate(records) if r[0] == model.ENTER]
+        if enters and rnd.random() < 0.5:
+            at = rnd.choice(enters)
+            wrong[at] = wrong[at][:2] + bytes([rnd.choice((4, 4, 4, 0, 5, 7, 131, 255))]) + wrong[at][3:]
+            return "wrong mode", blocks(wrong)
+        at = rnd.randrange(len(wrong))
+        wrong[at] = bytes([rnd.choice((8, 8, 8, 0, 9, 15, 135, 255))]) + wrong[at][1:]
+        return "wrong kind", blocks(wrong)
+    if kind == 5:
         for _ in range(rnd.randrange(2, 5)):
             out[block() + rnd.randrange(508)] ^= 1 << rnd.randrange(8)
         return "damaged, some checks corrected", mended(out, lambda: rnd.random() < 0.6)
-    if kind == 5:
+    if kind == 6:
         out[block() + rnd.choice((0, 1, 2, 3, 4, 5, 6, 7, 504, 505, 506, 507))] = rnd.randrange(256)
     else:
-        out[block() + 8 + rnd.randrange(496)] = rnd.randrange(256) if rnd.random() < 0.5 else rnd.randrange(9)
+        out[block() + 8 + rnd.randrange(496)] = rnd.randrange(256) if rnd.random() < 0.5 else rnd.randrange(10)
     return "damaged, check corrected", mended(out)
 
 
@@ -267,12 +278,49 @@ def parties(by_enter, by_leave, came):
     return collections.Counter(dict(zip(PARTIES, counts)))
 
 
+WRAP, BESIDE, FREED = "a sum of 2 to the 64 or more", "an adder granted beside one with whom it shares a number", "adders freed together"
+WAITER, BEHIND, EARLY = "an adder who waits", "an adder who waits for waiters alone", "add by a waiter, 14"
+NOT_ALLOWED = {(model.ADD, model.READING): "add in a reading visit, 18", (model.ADD, model.WRITING): "add in a writing visit, 18",
+               (model.GET, model.ADDING): "get in an adding visit, 18", (model.PUT, model.ADDING): "put in an adding visit, 18"}
+ADDS = [WRAP, BESIDE, FREED, WAITER, BEHIND, EARLY, *NOT_ALLOWED.values()]
+
+
+def adds(data, lines):
+    """How often each of these (02, point 5) is in a file; the model's desk says what was before each step."""
+    times = collections.Counter()
+    if lines[0].startswith("refused"):
+        return times
+    desk, records = model.opened(data)
+    for r, line in zip(records, lines):
+        kind, party, answer = r[0], r[1], line.split()[1:]
+        if kind == model.ENTER and r[2] == model.ADDING and answer[0] != "refused":
+            cover, waits = desk.h.cover(r[4:4 + r[3]]), answer == ["waits"]
+            beside = [mode for mode, c in desk.holds.values() if desk.conflict((model.WRITING, cover), (model.WRITING, c))]
+            times[BESIDE] += not waits and beside != []
+            times[WAITER] += waits
+            times[BEHIND] += waits and set(beside) <= {model.ADDING}
+        elif answer == ["added"]:
+            times[WRAP] += desk.values[r[2]] + model.little(r[4:12]) >= 2**64
+        elif answer == ["refused", "14"]:
+            times[EARLY] += kind == model.ADD
+        elif answer == ["refused", "18"]:
+            times[NOT_ALLOWED[kind, desk.holds[party][0]]] += 1
+        elif answer[0] == "left":
+            times[FREED] += sum(desk.calls[int(p)][0] == model.ADDING for p in answer[1:]) > 1
+        try:
+            model.perform(desk, r)
+        except model.Refusal:
+            pass
+    return times
+
+
 def word(line):
     w = line.split()
     return " ".join(w) if w[0] == "refused" else w[0] if w[0] in ("end", "party") else " ".join(w[1:3]) if w[1] == "refused" else w[1]
 
 
-WANTED = ["granted", "waits", "value", "stored", "left", "end", "party", *(f"refused {k}" for k in (2, 3, 4, 5, 6, 7, 8, 9, 11, 12, 13, 14, 15, 16, 17))]
+WANTED = ["granted", "waits", "value", "stored", "added", "left", "end", "party",
+          *(f"refused {k}" for k in (2, 3, 4, 5, 6, 7, 8, 9, 11, 12, 13, 14, 15, 16, 17, 18))]
 
 
 def run(program, data):
@@ -296,7 +344,7 @@ def main():
         print(f"no such program: {args.listing}")
         return 1
     rnd = random.Random(args.seed)
-    seen, kinds, who = (collections.Counter() for _ in range(3))
+    seen, kinds, who, added = (collections.Counter() for _ in range(4))
     one_freed = more_freed = ties = many = none = 0
     for k in range(args.files):
         kind, data = one(rnd)
@@ -319,6 +367,7 @@ def main():
         kinds[kind] += 1
         ties += tied(data, lines)
         who += parties(by_enter, by_leave, came)
+        added += adds(data, lines)
         many += len(end) == 33
         none += end[-1].startswith("end")
         for line in lines:
@@ -331,7 +380,9 @@ def main():
     print("lines: " + ", ".join(f"{w} {seen[w]}" for w in WANTED))
     print(f"leaves that granted one waiter {one_freed}, several {more_freed}; covers picked by number from records of different intervals {ties}")
     print("parties granted " + ", ".join(f"{w}: {who[w]}" for w in PARTIES) + f"; listings with a line for each party {many}, for none {none}")
-    missing = [w for w in WANTED if not seen[w]] + [f"a party granted {w}" for w in PARTIES if not who[w]]
+    print("adding: " + ", ".join(f"{w}: {added[w]}" for w in ADDS))
+    missing = [w for w in WANTED if not seen[w]] + [f"a party granted {w}" for w in PARTIES if not who[w]] + [w for w in ADDS if not added[w]]
+    missing += [f"a file with a {w}" for w in ("wrong kind", "wrong mode") if not kinds[w]]
     missing += [w for w, n in (("a leave that grants one", one_freed), ("a leave that grants several", more_freed), ("a cover picked by number from records of different intervals", ties),
                                ("a listing with a line for each party", many), ("a listing with `end` last", none)) if not n]
     if missing:

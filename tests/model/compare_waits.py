@@ -4,8 +4,9 @@
     compare_waits.py WAITS [--files N] [--seed S] [--keep DIR]
 
 WAITS is the program. It prints the seed, how many waits there were in each kind of file and how many of them were needless, and the first difference; it
-exits 1 where there is one, where a kind of file that can have them had no wait, or no needless one, or where there was a needless wait in a tree with visits
-of one name each. --keep writes the file that differs into DIR.
+exits 1 where there is one, where a kind of file that can have them had no wait, or no needless one, where there was a needless wait in a tree with visits
+of one name each, or where no adder waited needlessly, or needfully, or needlessly though its reach meets that of an adder who was there.
+--keep writes the file that differs into DIR.
 Parties mostly come and go, so that many wait. Some files are damaged, and some hierarchies illegal, as in compare.py.
 Of each hierarchy the intervals are also worked out as point 2 of document 02 has it: from sets with a bit for each record.
 """
@@ -23,6 +24,8 @@ from compare import record  # noqa: E402
 
 TREE, NAMES, SHARED, CYCLES = "tree, one name each", "tree, several names", "shared children", "cycles"
 BIG = "128 blocks"
+# how often visits are reading, writing and adding, of ten
+MODES = ((2, 8, 0), (5, 5, 0), (8, 2, 0), (2, 2, 6), (1, 3, 6), (3, 1, 6), (4, 3, 3), (0, 2, 8), (2, 0, 8))
 
 
 def plain(h):
@@ -59,7 +62,7 @@ def crowd(rnd, h, count, several):
     """Steps of parties that come and go, up to so many at a time; some blindly, with parties and records that do not fit. Without `several` each enter that is
     not refused names one record, once or more often."""
     desk, out, most = model.Desk(h), [], rnd.choice((3, 6, 12, 32, 32))
-    reading, deep = rnd.choice((0.2, 0.5, 0.8)), rnd.choice((0, 0.5, 0.9))
+    modes, deep = rnd.choice(MODES), rnd.choice((0, 0.5, 0.9))
     narrow = [x for x in range(h.n) if h.width(x) <= 2]
 
     def name():
@@ -68,10 +71,10 @@ def crowd(rnd, h, count, several):
     while len(out) < count:
         inside = [*desk.holds, *desk.calls]
         away = [p for p in range(32) if p not in inside]
-        mode = model.READING if rnd.random() < reading else model.WRITING
+        mode = rnd.choices((model.READING, model.WRITING, model.ADDING), modes)[0]
         choice = rnd.random()
         if choice < 0.05:
-            out.append(record(rnd.choice((4, 5)), rnd.randrange(34), rnd.randrange(256)))
+            out.append(record(rnd.choice((4, 5, 7)), rnd.randrange(34), rnd.randrange(256)))
         elif choice < 0.13:     # refused for its party or its names, whatever else it has
             names = [rnd.randrange(h.n) for _ in range(rnd.randrange(1, 9))]
             party = rnd.choice(inside) if inside and rnd.random() < 0.7 else rnd.randrange(32, 256)
@@ -90,6 +93,31 @@ def crowd(rnd, h, count, several):
         except model.Refusal:
             pass
     return out
+
+
+ADDERS = ["needless", "needful", "needless though its reach meets an adder's"]
+
+
+def adders(data):
+    """How many waits of adders there were in a file of each of these sorts."""
+    times = collections.Counter()
+    try:
+        desk, steps = model.opened(data)
+    except model.Refusal:
+        return times
+    report = model.Report(desk)
+    for r in steps:
+        waits, needless = report.waits, report.needless
+        there = [report.visits[p] for p in [*desk.holds, *desk.calls]]
+        try:
+            report.step(r)
+        except model.Refusal:
+            continue
+        if report.waits > waits and r[2] == model.ADDING:
+            names = report.reached(r[4:4 + r[3]])
+            times[ADDERS[report.needless == needless]] += 1
+            times[ADDERS[2]] += report.needless > needless and any(v[0] == model.ADDING and names & report.reached(v[1]) for v in there)
+    return times
 
 
 def one(rnd):
@@ -131,7 +159,7 @@ def main():
         print(f"no such program: {args.waits}")
         return 1
     rnd, wrong = random.Random(args.seed), []
-    files, every, needless, refused = (collections.Counter() for _ in range(4))
+    files, every, needless, refused, added = (collections.Counter() for _ in range(5))
     for k in range(args.files):
         kind, data, spoiled = one(rnd)
         want, lines = model.waits(data)[0], model.listing(data)
@@ -152,11 +180,14 @@ def main():
             files[kind] += 1
             every[kind] += counts[0]
             needless[kind] += counts[1]
+            added += adders(data)
     print(f"seed {args.seed}: {args.files} files agree, {sum(refused.values())} of them refused: " + ", ".join(f"{w[8:]} {c}" for w, c in sorted(refused.items())))
     for kind in (TREE, NAMES, SHARED, CYCLES, BIG):
         print(f"{kind}: {files[kind]} files, {every[kind]} waits, {needless[kind]} needless")
         wrong += [f"no wait in: {kind}"] * (not every[kind])
         wrong += [f"no needless wait in: {kind}"] * (kind != TREE and not needless[kind])
+    print("waits of adders: " + ", ".join(f"{added[w]} {w}" for w in ADDERS))
+    wrong += [f"no wait of an adder: {w}" for w in ADDERS if not added[w]]
     wrong += [f"{needless[TREE]} needless waits in trees with one name each"] * (needless[TREE] != 0)
     wrong += [f"never seen: refused {k}" for k in range(2, 10) if not refused[f"refused {k}"]]
     print("\n".join(wrong), end="\n" * bool(wrong))

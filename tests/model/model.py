@@ -1,5 +1,5 @@
 #!/usr/bin/env python3
-"""A plain model of the record desk, written from the papers (document 01, and points 1, 2 and 4 of 02), to compare the programs with.
+"""A plain model of the record desk, written from the papers (document 01, and points 1, 2, 4 and 5 of 02), to compare the programs with.
 
 It shares no code with the project: sets for reach, Python integers for values, a list of parties for the arrival order.
 `listing(data)` gives the lines that the program `listing` must print for the bytes of one file, `waits(data)` the one line of the program `waits`.
@@ -38,8 +38,10 @@ def check_wrong(block):
     return check(block[:508]) != little(block[508:512])
 
 
-SIZE, EDGE, ENTER, GET, PUT, LEAVE = 1, 2, 3, 4, 5, 6
-READING, WRITING = 1, 2
+SIZE, EDGE, ENTER, GET, PUT, LEAVE, ADD = 1, 2, 3, 4, 5, 6, 7
+READING, WRITING, ADDING = 1, 2, 3
+# the modes of two visits that do not conflict: two readers, and (02, point 5) two adders
+TOGETHER = {(READING, READING), (ADDING, ADDING)}
 # kind -> bytes that carry fields (an enter's depends on its name count)
 FIELDS = {
     SIZE: {1, 2},
@@ -47,6 +49,7 @@ FIELDS = {
     GET: {1, 2},
     PUT: {1, 2, 4, 5, 6, 7, 8, 9, 10, 11},
     LEAVE: {1},
+    ADD: {1, 2, 4, 5, 6, 7, 8, 9, 10, 11},
 }
 
 
@@ -54,7 +57,7 @@ def record_wrong(r):
     kind = r[0]
     if kind == ENTER:
         mode, count = r[2], r[3]
-        if mode not in (READING, WRITING):
+        if mode not in (READING, WRITING, ADDING):
             return True
         if not 1 <= count <= 8:
             return True
@@ -195,7 +198,7 @@ class Desk:
         (mode_a, cover_a), (mode_b, cover_b) = a, b
         before = self.h.high[cover_a] < self.h.low[cover_b]
         behind = self.h.high[cover_b] < self.h.low[cover_a]
-        return not before and not behind and not mode_a == mode_b == READING
+        return not before and not behind and (mode_a, mode_b) not in TOGETHER
 
     def grant(self, party, visit):
         """02, point 4: the desk counts for each of the 32 parties."""
@@ -236,14 +239,25 @@ class Desk:
         return mode
 
     def get(self, party, record):
-        self.inside(party, record)
+        if self.inside(party, record) == ADDING:
+            raise Refusal(18)
         return f"value {self.values[record]}"
 
     def put(self, party, record, value):
-        if self.inside(party, record) == READING:
+        mode = self.inside(party, record)
+        if mode == READING:
             raise Refusal(17)
+        if mode == ADDING:
+            raise Refusal(18)
         self.values[record] = value
         return "stored"
+
+    def add(self, party, record, number):
+        """02, point 5: adds the number to the value, modulo 2 to the 64; possible in adding visits alone."""
+        if self.inside(party, record) != ADDING:
+            raise Refusal(18)
+        self.values[record] = (self.values[record] + number) % 2**64
+        return "added"
 
     def leave(self, party):
         self.known(party)
@@ -273,6 +287,8 @@ def perform(desk, r):
         return desk.get(r[1], r[2])
     if r[0] == PUT:
         return desk.put(r[1], r[2], little(r[4:12]))
+    if r[0] == ADD:
+        return desk.add(r[1], r[2], little(r[4:12]))
     return desk.leave(r[1])
 
 
@@ -317,9 +333,9 @@ class Report:
         return set().union(*(self.reach[x] for x in names))
 
     def meet(self, a, b):
-        """Whether the reaches of two visits meet, other than a reader against a reader."""
+        """Whether the reaches of two visits meet, other than a reader against a reader or (point 5) an adder against an adder."""
         (mode_a, names_a), (mode_b, names_b) = a, b
-        if mode_a == mode_b == READING:
+        if (mode_a, mode_b) in TOGETHER:
             return False
         return not self.reached(names_a).isdisjoint(self.reached(names_b))
 

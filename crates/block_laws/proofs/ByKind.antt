@@ -13,15 +13,16 @@ use Rattle.blocks.specs.Block.{afterRecord}
 use Rattle.blocks.proofs.Rows.{right-at, past-rows, among-steps}
 use Rattle.block_laws.proofs.Pieces.{past-most}
 
--- the kind is one of the six, and mode, name count and unused bytes are right
-abbrev pub oneOfSix : ℕ → List ℕ → Bool
-oneOfSix kind r =
+-- the kind is one of the seven, and mode, name count and unused bytes are right
+abbrev pub oneOfSeven : ℕ → List ℕ → Bool
+oneOfSeven kind r =
     eqb kind 1 && zeroFrom 3 r
     || eqb kind 2 && zeroFrom 3 r
     || eqb kind 3 && enterRight r
     || eqb kind 4 && zeroFrom 3 r
     || eqb kind 5 && (eqb (byte 3 r) 0 && zeroFrom 12 r)
     || eqb kind 6 && zeroFrom 2 r
+    || eqb kind 7 && (eqb (byte 3 r) 0 && zeroFrom 12 r)
 
 -- one size record comes first, then all edges, then steps
 abbrev pub ordered : ℕ → ℕ → Bool
@@ -39,26 +40,28 @@ gap (a ∷ b ∷ []) = refl
 gap (a ∷ b ∷ c ∷ []) = refl
 gap (a ∷ b ∷ c ∷ d ∷ r) = and-true (eqb 0 d) ∙ turned d
 
-right : (kind : ℕ) (r : List ℕ) → (rowIn kinds kind) .right r ≡ oneOfSix kind r
+right : (kind : ℕ) (r : List ℕ) → (rowIn kinds kind) .right r ≡ oneOfSeven kind r
 unfolding kinds rowIn
 right zero r = refl
 right (suc zero) r = simp or-false
 right (suc (suc zero)) r = simp or-false
 right (suc (suc (suc zero))) r = simp or-false
 right (suc (suc (suc (suc zero)))) r = simp or-false
-right (suc (suc (suc (suc (suc zero))))) r = ap (λ (b : Bool). b && zeroFrom 12 r) (gap r) ∙ sym (or-false _)
-right (suc (suc (suc (suc (suc (suc zero)))))) r = refl
-right (suc (suc (suc (suc (suc (suc (suc x))))))) r =
-    let kind : ℕ = suc (suc (suc (suc (suc (suc (suc x)))))) in
-    let not : (k : ℕ) → k ≤ 6 → kind ≡ k → ⊥ = λ k h e. omega arith in
+right (suc (suc (suc (suc (suc zero))))) r = simp (gap r, or-false)
+right (suc (suc (suc (suc (suc (suc zero)))))) r = simp or-false
+right (suc (suc (suc (suc (suc (suc (suc zero))))))) r = ap (λ (b : Bool). b && zeroFrom 12 r) (gap r)
+right (suc (suc (suc (suc (suc (suc (suc (suc x)))))))) r =
+    let kind : ℕ = suc (suc (suc (suc (suc (suc (suc (suc x))))))) in
+    let not : (k : ℕ) → k ≤ 7 → kind ≡ k → ⊥ = λ k h e. omega arith in
     let n1 = not 1 (omega arith) in
     let n2 = not 2 (omega arith) in
     let n3 = not 3 (omega arith) in
     let n4 = not 4 (omega arith) in
     let n5 = not 5 (omega arith) in
     let n6 = not 6 (omega arith) in
-    ap (λ (k : Kind). k .right r) (past-rows 6 kinds kind (n1, (n2, (n3, (n4, (n5, (n6, tt)))))))
-    ∙ sym (simp (ne-eqb kind 1 n1, ne-eqb kind 2 n2, ne-eqb kind 3 n3, ne-eqb kind 4 n4, ne-eqb kind 5 n5, ne-eqb kind 6 n6))
+    let n7 = not 7 (omega arith) in
+    ap (λ (k : Kind). k .right r) (past-rows 7 kinds kind (n1, (n2, (n3, (n4, (n5, (n6, (n7, tt))))))))
+    ∙ sym (simp (ne-eqb kind 1 n1, ne-eqb kind 2 n2, ne-eqb kind 3 n3, ne-eqb kind 4 n4, ne-eqb kind 5 n5, ne-eqb kind 6 n6, ne-eqb kind 7 n7))
 
 -- the stages at which a record of each place may come
 late : (least most x : ℕ) (a b c : Bool) → most < suc (suc (suc x)) → between least most (suc (suc (suc x)))
@@ -98,12 +101,12 @@ order (suc (suc (suc x))) stage r b e =
     ∙ ap (λ (t : Bool). cond (b && ordered stage kind) (cond t 1 2) 4) (sym (lt-leb kind 2 (omega arith)))
 
 -- A RECORD BY ITSELF
-pub right-by-kind : (r : List ℕ) → recordRight r ≡ oneOfSix (kindOf r) r
+pub right-by-kind : (r : List ℕ) → recordRight r ≡ oneOfSeven (kindOf r) r
 right-by-kind r = right-at r refl ∙ right (kindOf r) r
 
 -- A RECORD IN ITS PLACE
 pub after-by-kind : (stage : ℕ) (r : List ℕ)
-    → afterRecord stage r ≡ cond (oneOfSix (kindOf r) r && ordered stage (kindOf r)) (cond (leb (kindOf r) 2) 1 2) 4
+    → afterRecord stage r ≡ cond (oneOfSeven (kindOf r) r && ordered stage (kindOf r)) (cond (leb (kindOf r) 2) 1 2) 4
 unfolding inOrder afterRecord
 after-by-kind stage r =
     order (kindOf r) stage r (recordRight r) (right-at r refl)

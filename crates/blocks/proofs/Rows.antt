@@ -49,11 +49,11 @@ in-rows P (k ∷ ks) ps last kind = either P (eqb kind (k .number)) k (rowIn ks 
 
 pub by-place : (P : Place → Type 0) → P atFirst → P amongEdges → P amongSteps → (kind : ℕ) → P ((rowIn kinds kind) .place)
 unfolding kinds
-by-place P size edge step kind = in-rows P kinds (size, (edge, (step, (step, (step, (step, tt)))))) step kind
+by-place P size edge step kind = in-rows P kinds (size, (edge, (step, (step, (step, (step, (step, tt))))))) step kind
 
 -- all kinds but size and edge stand among the steps
 pub among-steps : (kind : ℕ) → (kind ≡ 1 → ⊥) → (kind ≡ 2 → ⊥) → (rowIn kinds kind) .place ≡ amongSteps
 unfolding kinds
 among-steps kind size edge =
     ap (λ (k : Kind). k .place) (past-rows 2 kinds kind (size, (edge, tt)))
-    ∙ in-rows (λ (p : Place). p ≡ amongSteps) (drop 2 kinds) (refl, (refl, (refl, (refl, tt)))) refl kind
+    ∙ in-rows (λ (p : Place). p ≡ amongSteps) (drop 2 kinds) (refl, (refl, (refl, (refl, (refl, tt))))) refl kind

@@ -22,11 +22,11 @@ parentIn r = byte 1 r
 abbrev pub childIn : List ℕ → ℕ
 childIn r = byte 2 r
 
--- 3 enter, 4 get, 5 put, 6 leave: byte 1 party
+-- 3 enter, 4 get, 5 put, 6 leave, 7 add: byte 1 party
 abbrev pub partyIn : List ℕ → ℕ
 partyIn r = byte 1 r
 
--- 3 enter: byte 2 mode, 1 reading, 2 writing
+-- 3 enter: byte 2 mode, 1 reading, 2 writing, 3 adding
 abbrev pub modeIn : List ℕ → ℕ
 modeIn r = byte 2 r
 
@@ -38,11 +38,11 @@ nameCountIn r = byte 3 r
 abbrev pub namesIn : List ℕ → List ℕ
 namesIn r = take (nameCountIn r) (drop 4 r)
 
--- 4 get, 5 put: byte 2 the node
+-- 4 get, 5 put, 7 add: byte 2 the node
 abbrev pub nodeIn : List ℕ → ℕ
 nodeIn r = byte 2 r
 
--- 5 put: value in bytes 4 to 11
+-- 5 put: value in bytes 4 to 11; 7 add is laid out like put, its number is there
 abbrev pub valueIn : List ℕ → ℕ
 valueIn r = number8 4 r
 
@@ -50,10 +50,10 @@ valueIn r = number8 4 r
 abbrev pub zeroButValue : ℕ → List ℕ → Bool
 zeroButValue at r = zeroBetween at 4 r && zeroFrom 12 r
 
--- an enter with a mode of 1 or 2 and a name count of 1 to 8; name places past the count are unused
+-- an enter with a mode of 1 to 3 and a name count of 1 to 8; name places past the count are unused
 unfoldable pub enterRight : List ℕ → Bool
 enterRight r =
-    leb 1 (modeIn r) && leb (modeIn r) 2
+    leb 1 (modeIn r) && leb (modeIn r) 3
     && leb 1 (nameCountIn r) && leb (nameCountIn r) 8
     && zeroFrom (4 + nameCountIn r) r
 
@@ -92,7 +92,7 @@ pub record Kind : Type 0 where
 abbrev pub row : ℕ → Place → (List ℕ → Bool) → Kind
 row number place right = record { number = number; place = place; right = right }
 
--- size, edge, enter, get, put, leave
+-- size, edge, enter, get, put, leave, add
 unfoldable pub kinds : List Kind
 kinds =
     -- 1 size: bytes 1 and 2 are n
@@ -107,6 +107,8 @@ kinds =
     ∷ row 5 amongSteps (zeroButValue 3)
     -- 6 leave: party
     ∷ row 6 amongSteps (zeroFrom 2)
+    -- 7 add: party, node, number in bytes 4 to 11
+    ∷ row 7 amongSteps (zeroButValue 3)
     ∷ []
 
 -- the row of a kind; no record of a kind without a row is right

@@ -48,7 +48,7 @@ fn enter_right(r: &[u8]) -> bool
     if mode < 1 {
         return false;
     }
-    if mode > 2 {
+    if mode > 3 {
         return false;
     }
     if names < 1 {
@@ -82,6 +82,7 @@ pub fn record_right(r: &[u8]) -> bool
         4 => octets::zero_from(r, 3),
         5 => zero_but_value(r, 3),
         6 => octets::zero_from(r, 2),
+        7 => zero_but_value(r, 3),
         _ => false,
     }
 }

@@ -19,10 +19,11 @@ use Rattle.desk.specs.declared.Desk.{Desk}
 use Rattle.desk.specs.declared.EnterAnswer.the-variants.{Granted, Waits, Refused as EnterRefused}
 use Rattle.desk.specs.declared.GetAnswer.the-variants.{Value, Waiting, Refused as GetRefused}
 use Rattle.desk.specs.declared.PutAnswer.the-variants.{Stored, Refused as PutRefused}
+use Rattle.desk.specs.declared.AddAnswer.the-variants.{Added, Refused as AddRefused}
 use Rattle.desk.specs.declared.LeaveAnswer.the-variants.{Left, Refused as LeaveRefused}
-use Rattle.desk.specs.Steps.{granted, putOwn, enterRefusal, grantTo, queueLast, free, enterIf, enterUnless, enterStep}
-use Rattle.desk.specs.Steps.{valueChecks, getUnless, getStep, putUnless, putStep, afterLeaving, leaveUnless, leaveRefusal, leaveStep}
-use Rattle.desk.specs.Answers.{Enters, Gets, Puts, Leaves}
+use Rattle.desk.specs.Steps.{granted, getOwn, putOwn, addOwn, sum64, enterRefusal, grantTo, queueLast, free, enterIf, enterUnless, enterStep}
+use Rattle.desk.specs.Steps.{valueChecks, getUnless, getStep, putUnless, putStep, addStep, afterLeaving, leaveUnless, leaveRefusal, leaveStep}
+use Rattle.desk.specs.Answers.{Enters, Gets, Puts, Adds, Leaves}
 use Rattle.desk.specs.Inner.{leftBy}
 
 -- ENTER
@@ -52,37 +53,47 @@ module _ (H : Hierarchy) (d : Desk) (party : ℕ) (mode : Mode) (names : List �
       = entered none e ∙ ap (λ (b : Bool). enterIf b d party lock) (ap (free d) (sym same) ∙ f) in
       rw is (ed ∙ ap (queueLast d party) same, refl)
 
--- GET and PUT
+-- GET, PUT and ADD
 module _ (H : Hierarchy) (d : Desk) (party node : ℕ) (values : List ℕ) where
-  got : (o : Option ℕ) → refusal (valueChecks H d party node values []) ≡ o → getStep H d party node values ≡ getUnless o d (getD values node 0)
+  -- what each of them is refused with
+  abbrev refusalOf : List Check → Option ℕ
+  refusalOf own = refusal (valueChecks H d party node values own)
+
+  got : (o : Option ℕ) → refusalOf (getOwn d party) ≡ o → getStep H d party node values ≡ getUnless o d (getD values node 0)
   unfolding getStep
   got o e = ap (λ (x : Option ℕ). getUnless x d (getD values node 0)) e
 
-  pub get-refused : (k : ℕ) → eqb k 14 ≡ false → refusal (valueChecks H d party node values []) ≡ some k
-      → Gets (record { desk = d; answer = GetRefused k }) (getStep H d party node values)
+  pub get-refused : (k : ℕ) → eqb k 14 ≡ false → refusalOf (getOwn d party) ≡ some k → Gets (record { desk = d; answer = GetRefused k }) (getStep H d party node values)
   get-refused k f e = rw (got (some k) e, f) (refl, refl, refl)
 
-  pub get-waiting : (k : ℕ) → k ≡ 14 → refusal (valueChecks H d party node values []) ≡ some k → Gets (record { desk = d; answer = Waiting }) (getStep H d party node values)
+  pub get-waiting : (k : ℕ) → k ≡ 14 → refusalOf (getOwn d party) ≡ some k → Gets (record { desk = d; answer = Waiting }) (getStep H d party node values)
   get-waiting k q e = rw (got (some 14) (e ∙ ap some q)) (refl, refl, refl)
 
-  pub get-value : refusal (valueChecks H d party node values []) ≡ none → Gets (record { desk = d; answer = Value (getD values node 0) }) (getStep H d party node values)
+  pub get-value : refusalOf (getOwn d party) ≡ none → Gets (record { desk = d; answer = Value (getD values node 0) }) (getStep H d party node values)
   get-value e = rw (got none e) (refl, refl, refl)
 
   module _ (value : ℕ) where
-    abbrev own : List Check
-    own = putOwn d party
-
-    stored : (o : Option ℕ) → refusal (valueChecks H d party node values own) ≡ o → putStep H d party node value values ≡ putUnless o d node value values
+    stored : (o : Option ℕ) → refusalOf (putOwn d party) ≡ o → putStep H d party node value values ≡ putUnless o d node value values
     unfolding putStep
     stored o e = ap (λ (x : Option ℕ). putUnless x d node value values) e
 
-    pub put-refused : (k : ℕ) → refusal (valueChecks H d party node values own) ≡ some k
-        → Puts (record { desk = d; answer = PutRefused k }) values (putStep H d party node value values)
+    pub put-refused : (k : ℕ) → refusalOf (putOwn d party) ≡ some k → Puts (record { desk = d; answer = PutRefused k }) values (putStep H d party node value values)
     put-refused k e = rw (stored (some k) e) (refl, refl, refl)
 
-    pub put-stored : refusal (valueChecks H d party node values own) ≡ none
-        → Puts (record { desk = d; answer = Stored }) (set values node value) (putStep H d party node value values)
+    pub put-stored : refusalOf (putOwn d party) ≡ none → Puts (record { desk = d; answer = Stored }) (set values node value) (putStep H d party node value values)
     put-stored e = rw (stored none e) (refl, refl, refl)
+
+  module _ (number : ℕ) where
+    added : (o : Option ℕ) → refusalOf (addOwn d party) ≡ o → addStep H d party node number values ≡ putUnless o d node (sum64 (getD values node 0) number) values
+    unfolding addStep
+    added o e = ap (λ (x : Option ℕ). putUnless x d node (sum64 (getD values node 0) number) values) e
+
+    pub add-refused : (k : ℕ) → refusalOf (addOwn d party) ≡ some k → Adds (record { desk = d; answer = AddRefused k }) values (addStep H d party node number values)
+    add-refused k e = rw (added (some k) e) (refl, refl, refl)
+
+    pub add-added : refusalOf (addOwn d party) ≡ none → (sum : ℕ) → sum ≡ sum64 (getD values node 0) number
+        → Adds (record { desk = d; answer = Added }) (set values node sum) (addStep H d party node number values)
+    add-added e sum is = rw (added none e) (refl, refl, ap (set values node) is)
 
 -- LEAVE
 module _ (H : Hierarchy) (d : Desk) (party : ℕ) (list : List ℕ) where

@@ -51,7 +51,7 @@ holder-of Out a b = absurd (true≢false a)
 holder-of (Waiting l) a b = absurd (true≢false b)
 holder-of (Holding l) a b = (l, refl)
 
--- A GET OR PUT that is not refused before its own check
+-- A GET, PUT OR ADD that is not refused before its own check
 module _ (H : Hierarchy) (d : Desk) (party node : ℕ) (own : List Check) (e : refusal (nodeChecks H d party node own) ≡ none) where
   pub node-own-none : refusal own ≡ none
   node-own-none = later-none (nodeChecks H d party node own) 4 e

@@ -1,11 +1,13 @@
 -- How a step's refusal is picked: the checks of every step, and then its own. Assumes nothing.
-use mathlib.Core.Path.{_≡_, refl, ap, _∙_}
+use mathlib.Core.Path.{_≡_, refl, sym, ap, _∙_}
 use mathlib.Core.List.{List, [], _∷_}
 use mathlib.Core.Bool.{Bool, true, false, not, _||_}
 use mathlib.Core.Option.{some}
-use Prim.Native.Nat.{ℕ, _≤_}
+use Prim.Native.Nat.{ℕ, _≤_, _<_}
+use native.Mathlib.Omega.{arith}
 use lib.Dec.{ltb}
-use borrow.Author.Tests.{ne-eqb}
+use lib.ListN.{length}
+use borrow.Author.Tests.{ne-eqb, ltb-false}
 use Rattle.lists.specs.Lists.{anyBelow}
 use Rattle.lists.specs.Answer.{Check, _when_, refusal}
 use Rattle.hierarchy.specs.Hierarchy.{edgesOf, someEdge, sizeWrong, edgesTooMany, edgeWrong}
@@ -19,8 +21,8 @@ use Rattle.desk.specs.declared.Desk.{Desk}
 use Rattle.desk.specs.Desks.{stageAt}
 use Rattle.desk.specs.Sound.{soundDesk}
 use Rattle.desk.specs.Steps.{stepChecks, StepFacts, nodeChecks, NodeFacts}
-use Rattle.desk.specs.Inner.{refusalAfter, SizesJudged, Judged, NodeJudged}
-use Rattle.desk.proofs.Facts.{step-facts, node-facts}
+use Rattle.desk.specs.Inner.{refusalAfter, SizesJudged, Judged, NodeJudged, ValueJudged}
+use Rattle.desk.proofs.Facts.{step-own, step-facts, node-facts}
 
 -- WHAT IS ASKED OF LENGTHS AND COUNTS
 module _ (H : Hierarchy) (short : Bool) where
@@ -89,7 +91,7 @@ sound-spanned n intervals edges edgeCount d = refl
 pub few-waiting : (H : Hierarchy) (d : Desk) (party : ℕ) (short : Bool) → StepFacts H d party short → d .waiting ≤ 32
 few-waiting H d party short f = sound-few H (d .entries) (d .queue) (d .waiting) (f .sound)
 
--- WHAT GET AND PUT LOOK AT BESIDES
+-- WHAT GET, PUT AND ADD LOOK AT BESIDES
 module _ (H : Hierarchy) (d : Desk) (party node : ℕ) where
   pub node-13 : isOut (stageAt d party) ≡ true → NodeJudged H d party node 13
   node-13 e own = refused-here _ _ e
@@ -109,18 +111,36 @@ module _ (H : Hierarchy) (d : Desk) (party node : ℕ) where
         pub node-0 : not (insideHold H node (stageAt d party)) ≡ false → NodeJudged H d party node 0
         node-0 e own = refused-later _ _ e₁₃ ∙ refused-later _ _ e₁₄ ∙ refused-later _ _ e₁₅ ∙ refused-later _ _ e
 
-  pub node-own : (k : ℕ) → k ≡ 0 → NodeJudged H d party node k → (own : List Check) → refusal (nodeChecks H d party node own) ≡ refusal own
-  node-own k e j own = j own ∙ ap (λ (x : ℕ). refusalAfter x (refusal own)) e
-
-  pub node-some : (k : ℕ) → (k ≡ 0 → ⊥) → NodeJudged H d party node k → (own : List Check) → refusal (nodeChecks H d party node own) ≡ some k
-  node-some k e j own = j own ∙ rw (ne-eqb k 0 e) refl
-
-  pub node-known : (k : ℕ) → k ≡ 0 → NodeJudged H d party node k → NodeFacts H d party node
-  node-known k e j = node-facts H d party node [] (node-own k e j [] ∙ refusal-nil)
-
 pub node-lent : (n : ℕ) (intervals edges : List ℕ) (edgeCount : ℕ) (d : Desk) (party node k : ℕ) → NodeJudged (spanned n intervals) d party node k
     → NodeJudged (lent n intervals edges edgeCount) d party node k
 node-lent n intervals edges edgeCount d party node k j own =
     ap (λ (b : Bool). refusal (13 when isOut (stageAt d party) ∷ 14 when isWaiting (stageAt d party) ∷ 15 when not (ltb node n) ∷ 16 when not b ∷ own))
     (inside-any n n intervals edges edgeCount node (stageAt d party))
     ∙ j own
+
+-- BOTH, and then only the visit's mode is left
+module _ (H : Hierarchy) (d : Desk) (party node : ℕ) (short : Bool) where
+  pub value-first : (k : ℕ) → (k ≡ 0 → ⊥) → Judged H d party short k → ValueJudged H d party node short k
+  value-first k e j own = judged-some H d party short k e j (nodeChecks H d party node own) ∙ sym (rw (ne-eqb k 0 e) refl)
+
+  pub value-next : (k : ℕ) → k ≡ 0 → Judged H d party short k → (i : ℕ) → NodeJudged H d party node i → ValueJudged H d party node short i
+  value-next k e j i at-node own = judged-own H d party short k e j (nodeChecks H d party node own) ∙ at-node own
+
+  module _ (k : ℕ) (j : ValueJudged H d party node short k) where
+    pub value-some : (k ≡ 0 → ⊥) → (own : List Check) → refusal (stepChecks H d party short (nodeChecks H d party node own)) ≡ some k
+    value-some e own = j own ∙ rw (ne-eqb k 0 e) refl
+
+    module _ (e : k ≡ 0) where
+      pub value-own : (own : List Check) → refusal (stepChecks H d party short (nodeChecks H d party node own)) ≡ refusal own
+      value-own own = j own ∙ ap (λ (x : ℕ). refusalAfter x (refusal own)) e
+
+      pub value-facts : StepFacts H d party short × NodeFacts H d party node
+      value-facts =
+          let passed = value-own [] ∙ refusal-nil in
+          (step-facts H d party short _ passed, node-facts H d party node [] (step-own H d party short _ passed))
+
+-- where the n values are lent, the node has one
+pub value-lent : (H : Hierarchy) (d : Desk) (party node : ℕ) (values : List ℕ) (k : ℕ) → k ≡ 0 → ValueJudged H d party node (ltb (length values) (H .n)) k → node < length values
+value-lent H d party node values k e j =
+    let (step, at-node) = value-facts H d party node (ltb (length values) (H .n)) k j e in
+    omega (arith, at-node .below, ltb-false (length values) (H .n) (step .own-lent))

@@ -11,11 +11,14 @@ use Rattle.desk.specs.declared.GetAnswer.{GetAnswer}
 use Rattle.desk.specs.declared.GetAnswer.the-variants.{Value, Waiting, Refused as GetRefused}
 use Rattle.desk.specs.declared.PutAnswer.{PutAnswer}
 use Rattle.desk.specs.declared.PutAnswer.the-variants.{Stored, Refused as PutRefused}
+use Rattle.desk.specs.declared.AddAnswer.{AddAnswer}
+use Rattle.desk.specs.declared.AddAnswer.the-variants.{Added, Refused as AddRefused}
 use Rattle.desk.specs.declared.LeaveAnswer.{LeaveAnswer}
 use Rattle.desk.specs.declared.LeaveAnswer.the-variants.{Left, Refused as LeaveRefused}
 use Rattle.desk.specs.declared.EnterStep.{EnterStep}
 use Rattle.desk.specs.declared.GetStep.{GetStep}
 use Rattle.desk.specs.declared.PutStep.{PutStep}
+use Rattle.desk.specs.declared.AddStep.{AddStep}
 use Rattle.desk.specs.declared.LeaveStep.{LeaveStep}
 use Rattle.desk.specs.Steps.{Admission, granted, waits, EnterResult, GetResult, PutResult, LeaveResult}
 
@@ -35,6 +38,11 @@ getMeaning (GetRefused k) = refused k
 abbrev pub putMeaning : PutAnswer → Answer (Unit {0})
 putMeaning Stored = done tt
 putMeaning (PutRefused k) = refused k
+
+-- added, or refused
+abbrev pub addMeaning : AddAnswer → Answer (Unit {0})
+addMeaning Added = done tt
+addMeaning (AddRefused k) = refused k
 
 -- left, with the count of the parties granted, or refused
 abbrev pub leaveMeaning : LeaveAnswer → Answer ℕ
@@ -57,6 +65,10 @@ Gets r s = (r .desk ≡ s .desk) × (getMeaning (r .answer) ≡ s .answer) × (r
 -- of put, with the values that it leaves
 abbrev pub Puts : PutStep → List ℕ → PutResult → Type 0
 Puts r values s = (r .desk ≡ s .desk) × (putMeaning (r .answer) ≡ s .answer) × (values ≡ s .values)
+
+-- of add, with the values that it leaves
+abbrev pub Adds : AddStep → List ℕ → PutResult → Type 0
+Adds r values s = (r .desk ≡ s .desk) × (addMeaning (r .answer) ≡ s .answer) × (values ≡ s .values)
 
 -- of leave, with the list that it leaves
 abbrev pub Leaves : LeaveStep → List ℕ → LeaveResult → Type 0

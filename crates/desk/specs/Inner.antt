@@ -25,9 +25,13 @@ SizesJudged H short k = (own : List Check) → refusal (sizeChecks H short own) 
 abbrev pub Judged : Hierarchy → Desk → ℕ → Bool → ℕ → Type 0
 Judged H d party short k = (own : List Check) → refusal (stepChecks H d party short own) ≡ refusalAfter k (refusal own)
 
--- the same of what get and put look at besides
+-- the same of what get, put and add look at besides
 abbrev pub NodeJudged : Hierarchy → Desk → ℕ → ℕ → ℕ → Type 0
 NodeJudged H d party node k = (own : List Check) → refusal (nodeChecks H d party node own) ≡ refusalAfter k (refusal own)
+
+-- and of both: 0 says that only the visit's mode is left to look at
+abbrev pub ValueJudged : Hierarchy → Desk → ℕ → ℕ → Bool → ℕ → Type 0
+ValueJudged H d party node short k = (own : List Check) → refusal (stepChecks H d party short (nodeChecks H d party node own)) ≡ refusalAfter k (refusal own)
 
 -- the desk as a pass over the waiters has left it
 abbrev pub leftBy : Desk → Swept → Desk

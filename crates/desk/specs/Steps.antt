@@ -1,9 +1,9 @@
--- The four steps, each a total function of all that it is given: what it answers, and the desk and buffers that it leaves. Assumes nothing.
+-- The five steps, each a total function of all that it is given: what it answers, and the desk and buffers that it leaves. Assumes nothing.
 use mathlib.Core.Path.{_≡_}
 use mathlib.Core.List.{List, [], _∷_, _++_}
 use mathlib.Core.Bool.{Bool, true, false, not, _||_}
 use mathlib.Core.Option.{Option, none, some}
-use Prim.Native.Nat.{ℕ, _+_, _*_, _≤_, _<_}
+use Prim.Native.Nat.{ℕ, _+_, _*_, _%_, _^_, _≤_, _<_}
 use lib.Dec.{ltb}
 use lib.ListN.{length, getD, set, take}
 use Rattle.lists.specs.Lists.{anyBelow, over}
@@ -12,7 +12,7 @@ use Rattle.hierarchy.specs.Hierarchy.{edgesOf, someEdge, sizeWrong, edgesTooMan
 use Rattle.locks.specs.declared.Mode.{Mode}
 use Rattle.locks.specs.declared.Lock.{Lock}
 use Rattle.locks.specs.declared.Stage.the-variants.{Waiting, Holding}
-use Rattle.locks.specs.Stages.{isOut, isWaiting, readsOnly}
+use Rattle.locks.specs.Stages.{isOut, isWaiting, readsOnly, addsOnly}
 use Rattle.locks.specs.Lent.{Hierarchy, coverIn, tablesShort, intervalWrong, namesWrong, lockOn, insideLock, insideHold}
 use Rattle.parties.specs.Parties.{entryOf, isFree}
 use Rattle.arrivals.specs.Arrivals.{queuePlaces}
@@ -112,7 +112,7 @@ enterStep H d party mode names nameCount =
 
 -- GET
 
--- what get and put look at besides; `own` is what the one of them alone looks at
+-- what get, put and add look at besides; `own` is what the one of them alone looks at
 abbrev pub nodeChecks : Hierarchy → Desk → ℕ → ℕ → List Check → List Check
 nodeChecks H d party node own =
     13 when isOut (stageAt d party)
@@ -121,7 +121,7 @@ nodeChecks H d party node own =
     ∷ 16 when not (insideHold H node (stageAt d party))
     ∷ own
 
--- the same by name: what a get or put that none of these refuses knows (`node-facts`, proofs/Facts)
+-- the same by name: what a get, put or add that none of these refuses knows (`node-facts`, proofs/Facts)
 pub record NodeFacts (H : Hierarchy) (d : Desk) (party node : ℕ) : Type 0 where
   -- 13, 14: the party holds
   pub hold : Lock
@@ -131,7 +131,7 @@ pub record NodeFacts (H : Hierarchy) (d : Desk) (party node : ℕ) : Type 0 wher
   -- 16: its interval lies inside the hold's
   pub inside : insideLock H node hold ≡ true
 
--- get and put are lent the n values
+-- get, put and add are lent the n values
 abbrev pub valueChecks : Hierarchy → Desk → ℕ → ℕ → List ℕ → List Check → List Check
 valueChecks H d party node values own = stepChecks H d party (ltb (length values) (H .n)) (nodeChecks H d party node own)
 
@@ -145,13 +145,17 @@ abbrev pub getUnless : Option ℕ → Desk → ℕ → GetResult
 getUnless (some k) d value = record { desk = d; answer = refused k }
 getUnless none d value = record { desk = d; answer = done value }
 
+-- what get alone looks at: 18 in an adding visit
+abbrev pub getOwn : Desk → ℕ → List Check
+getOwn d party = 18 when addsOnly (stageAt d party) ∷ []
+
 -- the value of a node whose interval lies inside the hold's
 unfoldable pub getStep : Hierarchy → Desk → ℕ → ℕ → List ℕ → GetResult
-getStep H d party node values = getUnless (refusal (valueChecks H d party node values [])) d (getD values node 0)
+getStep H d party node values = getUnless (refusal (valueChecks H d party node values (getOwn d party))) d (getD values node 0)
 
 -- PUT
 
--- what put leaves: the next desk, the values in what it was lent, and its answer
+-- what put leaves, and add: the next desk, the values in what it was lent, and its answer
 pub record PutResult : Type 0 where
   pub desk : Desk
   pub values : List ℕ
@@ -162,14 +166,32 @@ abbrev pub putUnless : Option ℕ → Desk → ℕ → ℕ → List ℕ → PutR
 putUnless (some k) d node value values = record { desk = d; values = values; answer = refused k }
 putUnless none d node value values = record { desk = d; values = set values node value; answer = done tt }
 
--- what put alone looks at
+-- what put alone looks at: 17 in a reading visit, 18 in an adding one
 abbrev pub putOwn : Desk → ℕ → List Check
-putOwn d party = 17 when readsOnly (stageAt d party) ∷ []
+putOwn d party =
+    17 when readsOnly (stageAt d party)
+    ∷ 18 when addsOnly (stageAt d party)
+    ∷ []
 
 -- the same for a writing visit; that one value becomes the given number
 unfoldable pub putStep : Hierarchy → Desk → ℕ → ℕ → ℕ → List ℕ → PutResult
 putStep H d party node value values =
     putUnless (refusal (valueChecks H d party node values (putOwn d party))) d node value values
+
+-- ADD
+
+-- a number added to a value, modulo 2 to the 64
+abbrev pub sum64 : (value number : ℕ) → ℕ
+sum64 value number = (value + number) % 2 ^ 64
+
+-- what add alone looks at: 18 in a visit that isn't adding
+abbrev pub addOwn : Desk → ℕ → List Check
+addOwn d party = 18 when not (addsOnly (stageAt d party)) ∷ []
+
+-- as put, for an adding visit; that one value becomes the sum of itself and the given number
+unfoldable pub addStep : Hierarchy → Desk → ℕ → ℕ → ℕ → List ℕ → PutResult
+addStep H d party node number values =
+    putUnless (refusal (valueChecks H d party node values (addOwn d party))) d node (sum64 (getD values node 0) number) values
 
 -- LEAVE
 

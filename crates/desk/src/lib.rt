@@ -1,13 +1,13 @@
-// The desk: who may be in which nodes. The desk, what its four steps answer, and the steps.
+// The desk: who may be in which nodes. The desk, what its five steps answer, and the steps.
 ghost use mathlib.Core.Path.{_≡_};
 ghost use Prim.Native.Nat.{_≤_, _<_};
 ghost use lib.ListN.{length, take};
 ghost use Rattle.lists.specs.Lists.{over};
 ghost use Rattle.locks.specs.Lent.{lent, spanned};
 ghost use Rattle.desk.specs.Desks.{freshDesk};
-ghost use Rattle.desk.specs.Steps.{grantTo, queueLast, enterStep, getStep, putStep, leaveStep};
-ghost use Rattle.desk.specs.Answers.{Enters, Gets, Puts, Leaves};
-ghost use Rattle.desk.specs.Inner.{SizesJudged, Judged, NodeJudged, leftBy};
+ghost use Rattle.desk.specs.Steps.{grantTo, queueLast, enterStep, getStep, putStep, addStep, leaveStep};
+ghost use Rattle.desk.specs.Answers.{Enters, Gets, Puts, Adds, Leaves};
+ghost use Rattle.desk.specs.Inner.{SizesJudged, Judged, NodeJudged, ValueJudged, leftBy};
 use arrivals::Listed;
 use arrivals::PARTIES;
 use locks::Lock;
@@ -44,6 +44,12 @@ pub enum PutAnswer {
     Refused(u8),
 }
 
+// What add answers.
+pub enum AddAnswer {
+    Added,
+    Refused(u8),
+}
+
 // What leave answers: the count of the parties that it granted.
 pub enum LeaveAnswer {
     Left(usize),
@@ -66,6 +72,12 @@ pub struct GetStep {
 pub struct PutStep {
     pub desk: Desk,
     pub answer: PutAnswer,
+}
+
+// What add hands back.
+pub struct AddStep {
+    pub desk: Desk,
+    pub answer: AddAnswer,
 }
 
 // What leave hands back.
@@ -146,7 +158,7 @@ impl Desk {
         0
     }
 
-    // What get and put look at besides: the number of the first refusal that holds, or 0.
+    // What get, put and add look at besides: the number of the first refusal that holds, or 0.
     fn judge_node(self, n: usize, intervals: &[u16], party: usize, node: usize) -> u8
         ensures { λ r. ⌜ (r < 17) × NodeJudged (spanned n (now (intervals .entry))) self party node r ⌝ }
     {
@@ -165,6 +177,26 @@ impl Desk {
             return 16;
         }
         0
+    }
+
+    // What get, put and add look at but for the visit's mode: the number of the first refusal that holds, or 0.
+    fn judge_value(
+        self,
+        n: usize,
+        intervals: &[u16],
+        edges: &[u16],
+        edge_count: usize,
+        party: usize,
+        node: usize,
+        short: bool,
+    ) -> u8
+        ensures { λ r. ⌜ (r < 17) × ValueJudged (lent n (now (intervals .entry)) (now (edges .entry)) «edge_count») self party node short r ⌝ }
+    {
+        let k = self.judge(n, intervals, edges, edge_count, party, short);
+        if k != 0 {
+            return k;
+        }
+        self.judge_node(n, intervals, party, node)
     }
 
     // The desk with a lock granted to a party that was out.
@@ -293,24 +325,33 @@ impl Desk {
     ) -> GetStep
         ensures { λ r. ⌜ Gets r (getStep (lent n (now (intervals .entry)) (now (edges .entry)) «edge_count») self party node (now (values .entry))) ⌝ }
     {
-        let k = self.judge(n, intervals, edges, edge_count, party, values.len() < n);
+        let k = self.judge_value(
+            n,
+            intervals,
+            edges,
+            edge_count,
+            party,
+            node,
+            values.len() < n,
+        );
+        if k == 14 {
+            return GetStep {
+                desk: self,
+                answer: GetAnswer::Waiting,
+            };
+        }
         if k != 0 {
             return GetStep {
                 desk: self,
                 answer: GetAnswer::Refused(k),
             };
         }
-        let j = self.judge_node(n, intervals, party, node);
-        if j == 14 {
+        let entries = self.entries;
+        let s = parties::stage(entries, party);
+        if locks::adds_only(s) {
             return GetStep {
                 desk: self,
-                answer: GetAnswer::Waiting,
-            };
-        }
-        if j != 0 {
-            return GetStep {
-                desk: self,
-                answer: GetAnswer::Refused(j),
+                answer: GetAnswer::Refused(18),
             };
         }
         let value = values[node];
@@ -334,18 +375,19 @@ impl Desk {
     ) -> PutStep
         ensures { λ r. ⌜ Puts r (now (values .exit)) (putStep (lent n (now (intervals .entry)) (now (edges .entry)) «edge_count») self party node value (now (values .entry))) ⌝ }
     {
-        let k = self.judge(n, intervals, edges, edge_count, party, values.len() < n);
+        let k = self.judge_value(
+            n,
+            intervals,
+            edges,
+            edge_count,
+            party,
+            node,
+            values.len() < n,
+        );
         if k != 0 {
             return PutStep {
                 desk: self,
                 answer: PutAnswer::Refused(k),
-            };
-        }
-        let j = self.judge_node(n, intervals, party, node);
-        if j != 0 {
-            return PutStep {
-                desk: self,
-                answer: PutAnswer::Refused(j),
             };
         }
         let entries = self.entries;
@@ -356,10 +398,61 @@ impl Desk {
                 answer: PutAnswer::Refused(17),
             };
         }
+        if locks::adds_only(s) {
+            return PutStep {
+                desk: self,
+                answer: PutAnswer::Refused(18),
+            };
+        }
         values[node] = value;
         PutStep {
             desk: self,
             answer: PutAnswer::Stored,
+        }
+    }
+
+    // A party that holds for adding adds to the value of a node inside its hold, modulo 2 to the 64.
+    pub fn add(
+        self,
+        n: usize,
+        intervals: &[u16],
+        edges: &[u16],
+        edge_count: usize,
+        party: usize,
+        node: usize,
+        number: u64,
+        values: &mut [u64],
+    ) -> AddStep
+        ensures { λ r. ⌜ Adds r (now (values .exit)) (addStep (lent n (now (intervals .entry)) (now (edges .entry)) «edge_count») self party node number (now (values .entry))) ⌝ }
+    {
+        let k = self.judge_value(
+            n,
+            intervals,
+            edges,
+            edge_count,
+            party,
+            node,
+            values.len() < n,
+        );
+        if k != 0 {
+            return AddStep {
+                desk: self,
+                answer: AddAnswer::Refused(k),
+            };
+        }
+        let entries = self.entries;
+        let s = parties::stage(entries, party);
+        if !locks::adds_only(s) {
+            return AddStep {
+                desk: self,
+                answer: AddAnswer::Refused(18),
+            };
+        }
+        let old = values[node];
+        values[node] = std::num::wrapping_add_u64(old, number);
+        AddStep {
+            desk: self,
+            answer: AddAnswer::Added,
         }
     }
 

@@ -1,11 +1,12 @@
-// The four steps called directly: above all what no block file can show, nine names or none, tables or buffers too short, all that is refused with 1, 5,
+// The five steps called directly: above all what no block file can show, nine names or none, tables or buffers too short, all that is refused with 1, 5,
 // 6, 7 or 10, and counts of grants at their stop. Standard input has a line for each call; each is written out again with what the desk answers. A line's first letter says what it
 // does. Behind its word stand 22 digits of intervals, 22 of edges and 10 of names, then columns of numbers. Desk and values go on from line to line. Besides the steps there are
-// lines that make the desk by hand, and one that shows what a listing has after its steps.
+// lines that make the desk by hand, one that shows the values, and one that shows what a listing has after its steps.
 ghost use lib.ListN.{length};
 ghost use mathlib.Core.Path.{_≡_};
 ghost use Prim.Native.Nat.{_≤_};
 use arrivals::PARTIES;
+use desk::AddAnswer;
 use desk::Desk;
 use desk::EnterAnswer;
 use desk::GetAnswer;
@@ -13,7 +14,7 @@ use desk::LeaveAnswer;
 use desk::PutAnswer;
 use locks::Mode;
 
-// The numbers of a line that every step takes, and three that a step has besides.
+// The numbers of a line that every step takes, and four that a step has besides.
 struct Call {
     n: usize,
     places: usize,
@@ -23,6 +24,7 @@ struct Call {
     lent: usize,
     first: usize,
     second: usize,
+    third: usize,
 }
 
 // What is said of an answer: which word, and its number.
@@ -57,6 +59,7 @@ fn taken(line: &[u8]) -> Call {
         lent: number(line, 5),
         first: number(line, 6),
         second: number(line, 7),
+        third: number(line, 8),
     }
 }
 
@@ -108,13 +111,27 @@ fn got(answer: GetAnswer) -> Said {
 }
 
 // What put answered; with stored goes the number that was given.
-fn stored(answer: PutAnswer, given: usize) -> Said {
+fn stored(answer: PutAnswer, given: u64) -> Said {
     match answer {
         PutAnswer::Stored => Said {
             word: 1,
-            number: given as u64,
+            number: given,
         },
         PutAnswer::Refused(k) => Said {
+            word: 2,
+            number: k as u64,
+        },
+    }
+}
+
+// What add answered; with added goes the number that was given.
+fn added(answer: AddAnswer, given: u64) -> Said {
+    match answer {
+        AddAnswer::Added => Said {
+            word: 7,
+            number: given,
+        },
+        AddAnswer::Refused(k) => Said {
             word: 2,
             number: k as u64,
         },
@@ -137,8 +154,9 @@ fn left(answer: LeaveAnswer) -> Said {
 
 // Says an answer: its word, then its number.
 fn say(s: Said) {
-    let words = *b":   waits :  stored : refused : granted : waiting :   value :    left ";
-    let at = s.word % 7 * 10;
+    let words =
+        *b":   waits :  stored : refused : granted : waiting :   value :    left :   added ";
+    let at = s.word % 8 * 10;
     let end = at + 10;
     io::write_all(1, &words[at..end]);
     io::print_decimal(1, s.number);
@@ -154,12 +172,33 @@ fn say_list(list: &[u8; 34]) {
     }
 }
 
-// The mode that a line asks for: 1 reading, any other writing.
+// The mode that a line asks for: 1 reading, 3 adding, any other writing.
 fn mode(asked: usize) -> Mode {
     if asked == 1 {
         return Mode::Reading;
     }
+    if asked == 3 {
+        return Mode::Adding;
+    }
     Mode::Writing
+}
+
+// How many values a line of get, put or add lends of those that there are: ten where it does not say.
+fn values_lent(c: Call, all: usize) -> usize
+    ensures { λ r. ⌜ r ≤ all ⌝ }
+{
+    if c.lent == 0 {
+        return octets::least(10, all);
+    }
+    octets::least(c.lent, all)
+}
+
+// The number that a line gives to put or add; with a 1 behind it, so many below the largest.
+fn given(c: Call) -> u64 {
+    if c.third == 1 {
+        return 18446744073709551615 - (c.second % 65536) as u64;
+    }
+    c.second as u64
 }
 
 // STEPS. Enters, with so many names lent, a name count and a mode.
@@ -185,6 +224,7 @@ fn enter(line: &[u8], c: Call, desk: Desk, intervals: &[u16], edges: &[u16]) -> 
 
 // Gets the value of a node.
 fn get(c: Call, desk: Desk, intervals: &[u16], edges: &[u16], values: &[u64]) -> Desk {
+    let lent = values_lent(c, values.len());
     let step = desk.get(
         c.n,
         intervals,
@@ -192,7 +232,7 @@ fn get(c: Call, desk: Desk, intervals: &[u16], edges: &[u16], values: &[u64]) ->
         c.edge_count,
         c.party,
         c.first,
-        values,
+        &values[0..lent],
     );
     let answer = step.answer;
     say(got(answer));
@@ -201,6 +241,8 @@ fn get(c: Call, desk: Desk, intervals: &[u16], edges: &[u16], values: &[u64]) ->
 
 // Puts a number at a node.
 fn put(c: Call, desk: Desk, intervals: &[u16], edges: &[u16], values: &mut [u64]) -> Desk {
+    let lent = values_lent(c, values.len());
+    let number = given(c);
     let step = desk.put(
         c.n,
         intervals,
@@ -208,11 +250,30 @@ fn put(c: Call, desk: Desk, intervals: &[u16], edges: &[u16], values: &mut [u64]
         c.edge_count,
         c.party,
         c.first,
-        c.second as u64,
-        values,
+        number,
+        &mut values[0..lent],
     );
     let answer = step.answer;
-    say(stored(answer, c.second));
+    say(stored(answer, number));
+    step.desk
+}
+
+// Adds a number at a node.
+fn add(c: Call, desk: Desk, intervals: &[u16], edges: &[u16], values: &mut [u64]) -> Desk {
+    let lent = values_lent(c, values.len());
+    let number = given(c);
+    let step = desk.add(
+        c.n,
+        intervals,
+        edges,
+        c.edge_count,
+        c.party,
+        c.first,
+        number,
+        &mut values[0..lent],
+    );
+    let answer = step.answer;
+    say(added(answer, number));
     step.desk
 }
 
@@ -255,6 +316,18 @@ fn counts(c: Call, desk: Desk) -> Desk {
     d
 }
 
+// Says the first twelve values.
+fn say_values(desk: Desk, values: &[u64]) -> Desk {
+    let end = octets::least(12, values.len());
+    let mut i = 0;
+    while i < end {
+        io::write_all(1, b" ");
+        io::print_decimal(1, values[i]);
+        i += 1;
+    }
+    desk
+}
+
 // Says the lines that a listing has after its steps: holders, waiters and grants, and each party's grants.
 fn show(desk: Desk) -> Desk {
     let mut text = [0u8; 800];
@@ -278,9 +351,11 @@ fn perform(
         b'e' => enter(line, c, desk, intervals, edges),
         b'g' => get(c, desk, intervals, edges, values),
         b'p' => put(c, desk, intervals, edges, values),
+        b'a' => add(c, desk, intervals, edges, values),
         b'l' => leave(c, desk, intervals, edges),
         b'd' => by_hand(c, desk),
         b'c' => counts(c, desk),
+        b'v' => say_values(desk, values),
         b's' => show(desk),
         b'f' => Desk::fresh(),
         _ => desk,
@@ -307,7 +382,7 @@ fn answer(line: &[u8], desk: Desk, values: &mut [u64]) -> Desk {
 // Each line is written out, then what it asks for is done.
 fn run(text: &[u8]) {
     let mut desk = Desk::fresh();
-    let mut values = [0u64; 10];
+    let mut values = [0u64; 257];
     let mut at = 0;
     while at < text.len() {
         let end = bytes::scan::find(text, at, text.len(), 10);

@@ -15,8 +15,8 @@ use Rattle.blocks.specs.File.{afterBlocks, recordsOf, notBlocks, blocksOf}
 use Rattle.parties.specs.Sound.{soundParties}
 use Rattle.sweeps.specs.Sweeps.{offer, sweep}
 use Rattle.grants.specs.Grants.{countGrants}
-use Rattle.desk.specs.Steps.{enterStep, getStep, putStep, leaveStep}
-use Rattle.runs.specs.Run.{lend, restored, lentTo, afterEnter, afterGet, afterPut, listed, afterLeave, moveCall, move, alsoRan, run}
+use Rattle.desk.specs.Steps.{enterStep, getStep, putStep, addStep, leaveStep}
+use Rattle.runs.specs.Run.{lend, restored, lentTo, afterEnter, afterGet, afterPut, afterAdd, listed, afterLeave, moveCall, move, alsoRan, run}
 use Rattle.replay.specs.Replay.{eachRecord, edgeTable, runRecords, runFile}
 use Rattle.examples.specs.Cases.{sameNumbers, asNumbers, sameAnswers, unrefused, wrote, spans, disjoint, withGrants, gave, passes}
 use Rattle.examples.specs.Table.{fileT, fileShared, starred}
@@ -25,7 +25,7 @@ pub all-starred : every passes starred ≡ true
 unfolding allBelow anyBelow every any keep count sum over foldFrom least greatest refusal children someEdge spread spreads reach edgeTwice
     someUnreached meet visit inside walk numbering numbersAmong lowOf highOf intervalsFrom intervalTable closest buildStep words sums
     fletcher enterRight kinds rowIn recordRight inOrder afterRecord afterRecords countRight headRight afterBlock recordsIn blockBody blockOf afterBlocks
-    recordsOf notBlocks blocksOf soundParties enterStep getStep putStep offer sweep countGrants leaveStep eachRecord edgeTable lend restored lentTo afterEnter afterGet afterPut listed afterLeave
+    recordsOf notBlocks blocksOf soundParties enterStep getStep putStep addStep offer sweep countGrants leaveStep eachRecord edgeTable lend restored lentTo afterEnter afterGet afterPut afterAdd listed afterLeave
     moveCall move alsoRan run
     runRecords runFile sameNumbers asNumbers sameAnswers unrefused wrote spans disjoint withGrants gave passes fileT fileShared starred
 all-starred = refl

@@ -8,30 +8,30 @@ use Rattle.intervals.specs.Cover.{closest}
 use Rattle.parties.specs.Sound.{soundParties}
 use Rattle.sweeps.specs.Sweeps.{offer, sweep}
 use Rattle.grants.specs.Grants.{countGrants}
-use Rattle.desk.specs.Steps.{enterStep, getStep, putStep, leaveStep}
+use Rattle.desk.specs.Steps.{enterStep, getStep, putStep, addStep, leaveStep}
 use Rattle.blocks.specs.Record.{enterRight, kinds, rowIn, recordRight}
-use Rattle.runs.specs.Run.{lend, restored, lentTo, afterEnter, afterGet, afterPut, listed, afterLeave, moveCall, move}
+use Rattle.runs.specs.Run.{lend, restored, lentTo, afterEnter, afterGet, afterPut, afterAdd, listed, afterLeave, moveCall, move}
 use Rattle.examples.specs.Cases.{sameNumbers, asNumbers, sameAnswers}
 use Rattle.examples.specs.Rows.{right}
 use Rattle.examples.specs.Steps.{allStages, deskNumbers, steps, tables, desks, records}
 
 pub all-steps : every right steps ≡ true
-unfolding allBelow anyBelow every any keep over foldFrom least greatest refusal someEdge closest soundParties enterStep getStep putStep offer
+unfolding allBelow anyBelow every any keep over foldFrom least greatest refusal someEdge closest soundParties enterStep getStep putStep addStep offer
     sweep leaveStep listed sameNumbers asNumbers sameAnswers right steps
 all-steps = refl
 
 pub all-tables : every right tables ≡ true
-unfolding allBelow anyBelow every any keep over foldFrom least greatest refusal someEdge closest soundParties enterStep getStep putStep offer
+unfolding allBelow anyBelow every any keep over foldFrom least greatest refusal someEdge closest soundParties enterStep getStep putStep addStep offer
     sweep leaveStep listed sameNumbers asNumbers sameAnswers right tables
 all-tables = refl
 
 pub all-desks : every right desks ≡ true
-unfolding allBelow anyBelow every any keep over foldFrom least greatest refusal someEdge closest soundParties enterStep getStep putStep offer
+unfolding allBelow anyBelow every any keep over foldFrom least greatest refusal someEdge closest soundParties enterStep getStep putStep addStep offer
     sweep countGrants leaveStep listed sameNumbers asNumbers sameAnswers allStages deskNumbers right desks
 all-desks = refl
 
 pub all-records : every right records ≡ true
-unfolding allBelow anyBelow every any keep over foldFrom least greatest refusal someEdge closest soundParties enterStep getStep putStep offer sweep countGrants leaveStep
-    enterRight kinds rowIn recordRight lend restored lentTo afterEnter afterGet afterPut listed afterLeave moveCall move
+unfolding allBelow anyBelow every any keep over foldFrom least greatest refusal someEdge closest soundParties enterStep getStep putStep addStep offer sweep countGrants leaveStep
+    enterRight kinds rowIn recordRight lend restored lentTo afterEnter afterGet afterPut afterAdd listed afterLeave moveCall move
     sameNumbers asNumbers sameAnswers allStages deskNumbers right records
 all-records = refl

@@ -1,4 +1,4 @@
--- VISITS OF T AS FILES, the refusals 11 to 17 at their edges among them: what their steps answer is what the definitions give, by computation. Assumes nothing.
+-- VISITS OF T AS FILES, the refusals 11 to 18 at their edges among them: what their steps answer is what the definitions give, by computation. Assumes nothing.
 use mathlib.Core.Path.{_≡_, refl}
 use mathlib.Core.Bool.{true}
 use Rattle.lists.specs.Lists.{allBelow, anyBelow, every, any, keep, count, over, foldFrom, least, greatest, sum}
@@ -14,8 +14,8 @@ use Rattle.blocks.specs.File.{afterBlocks, recordsOf, notBlocks, blocksOf}
 use Rattle.parties.specs.Sound.{soundParties}
 use Rattle.sweeps.specs.Sweeps.{offer, sweep}
 use Rattle.grants.specs.Grants.{countGrants}
-use Rattle.desk.specs.Steps.{enterStep, getStep, putStep, leaveStep}
-use Rattle.runs.specs.Run.{lend, restored, lentTo, afterEnter, afterGet, afterPut, listed, afterLeave, moveCall, move, alsoRan, run}
+use Rattle.desk.specs.Steps.{enterStep, getStep, putStep, addStep, leaveStep}
+use Rattle.runs.specs.Run.{lend, restored, lentTo, afterEnter, afterGet, afterPut, afterAdd, listed, afterLeave, moveCall, move, alsoRan, run}
 use Rattle.replay.specs.Replay.{eachRecord, edgeTable, runRecords, runFile}
 use Rattle.examples.specs.Cases.{sameNumbers, asNumbers, sameAnswers, withGrants, gave, passes}
 use Rattle.examples.specs.Edges.{fileEdges, stepEdges}
@@ -25,7 +25,7 @@ pub all-step-edges : passes stepEdges ≡ true
 unfolding allBelow anyBelow every any keep count sum over foldFrom least greatest refusal children someEdge spread spreads reach edgeTwice
     someUnreached meet visit inside walk numbering numbersAmong lowOf highOf intervalsFrom intervalTable closest words sums fletcher
     enterRight kinds rowIn recordRight inOrder afterRecord afterRecords countRight headRight afterBlock recordsIn blockBody blockOf afterBlocks
-    recordsOf notBlocks blocksOf soundParties enterStep getStep putStep offer sweep countGrants leaveStep eachRecord edgeTable lend restored lentTo afterEnter afterGet afterPut listed afterLeave
+    recordsOf notBlocks blocksOf soundParties enterStep getStep putStep addStep offer sweep countGrants leaveStep eachRecord edgeTable lend restored lentTo afterEnter afterGet afterPut afterAdd listed afterLeave
     moveCall move alsoRan run
     runRecords runFile sameNumbers asNumbers sameAnswers withGrants gave passes fileEdges stepEdges
 all-step-edges = refl
@@ -34,7 +34,7 @@ pub all-visits : every passes visits ≡ true
 unfolding allBelow anyBelow every any keep count sum over foldFrom least greatest refusal children someEdge spread spreads reach edgeTwice
     someUnreached meet visit inside walk numbering numbersAmong lowOf highOf intervalsFrom intervalTable closest words sums fletcher
     enterRight kinds rowIn recordRight inOrder afterRecord afterRecords countRight headRight afterBlock recordsIn blockBody blockOf afterBlocks
-    recordsOf notBlocks blocksOf soundParties enterStep getStep putStep offer sweep countGrants leaveStep eachRecord edgeTable lend restored lentTo afterEnter afterGet afterPut listed afterLeave
+    recordsOf notBlocks blocksOf soundParties enterStep getStep putStep addStep offer sweep countGrants leaveStep eachRecord edgeTable lend restored lentTo afterEnter afterGet afterPut afterAdd listed afterLeave
     moveCall move alsoRan run
     runRecords runFile sameNumbers asNumbers sameAnswers withGrants gave passes visits
 all-visits = refl

@@ -10,7 +10,7 @@ use Rattle.hierarchy.specs.Hierarchy.{reach}
 use Rattle.intervals.specs.Build.{BuildResult, buildStep}
 use Rattle.intervals.specs.Cover.{lowAt, highAt, coverOf}
 use Rattle.blocks.specs.File.{fileOf}
-use Rattle.replay.specs.Replay.{StepAnswer, granted, waits, value, stored, left, refused, FileRun, runFile}
+use Rattle.replay.specs.Replay.{StepAnswer, granted, waits, value, stored, added, left, refused, FileRun, runFile}
 
 -- a case, with what the paper says of it
 pub data Case : Type 0 where
@@ -38,6 +38,7 @@ asNumbers (value number) = 3 ∷ number ∷ []
 asNumbers stored = 4 ∷ []
 asNumbers (left parties) = 5 ∷ parties
 asNumbers (refused number) = 6 ∷ number ∷ []
+asNumbers added = 7 ∷ []
 
 -- the answers are the expected ones
 unfoldable pub sameAnswers : List StepAnswer → List StepAnswer → Bool

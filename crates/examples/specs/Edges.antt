@@ -11,7 +11,7 @@ use Rattle.blocks.specs.Record.{recordRight}
 use Rattle.blocks.specs.Block.{countRight, headRight, blockOf}
 use Rattle.blocks.specs.File.{notBlocks, readRefusal, writeRefusal}
 use Rattle.locks.specs.declared.Mode.{Mode}
-use Rattle.locks.specs.declared.Mode.the-variants.{Reading, Writing}
+use Rattle.locks.specs.declared.Mode.the-variants.{Reading, Writing, Adding}
 use Rattle.locks.specs.declared.Stage.the-variants.{Waiting, Holding}
 use Rattle.desk.specs.declared.Desk.{Desk}
 use Rattle.locks.specs.Locks.{conflictCall}
@@ -21,11 +21,11 @@ use Rattle.parties.specs.Sound.{listsParties, listsOnce, listsWaiting, interval
 use Rattle.desk.specs.Desks.{freshDesk}
 use Rattle.desk.specs.Sound.{soundDesk}
 use Rattle.grants.specs.Grants.{noGrants, oneGrantMore}
-use Rattle.desk.specs.Steps.{enterRefusal, valueChecks, putOwn, leaveRefusal}
-use Rattle.replay.specs.Replay.{granted, waits, value, stored, left, refused}
+use Rattle.desk.specs.Steps.{enterRefusal, valueChecks, getOwn, putOwn, addOwn, sum64, leaveRefusal}
+use Rattle.replay.specs.Replay.{granted, waits, value, stored, added, left, refused}
 use Rattle.examples.specs.Cases.{Case, listing}
 use Rattle.examples.specs.Rows.{Row, is, are}
-use Rattle.examples.specs.Table.{bytes16, edge, enter1, get, put, leave, size}
+use Rattle.examples.specs.Table.{bytes16, edge, enter1, get, put, leave, add, size}
 use Rattle.examples.specs.Steps.{lock, seat, list}
 
 -- two nodes and one edge, with these intervals
@@ -46,11 +46,15 @@ holding = seat freshDesk 1 (Holding (lock Writing 1 1 1))
 
 -- what its get of node 1 is refused with, lent so many values
 abbrev pub getLent : ℕ → ℕ
-getLent values = numberOf (refusal (valueChecks ones holding 1 1 (replicate values 0) []))
+getLent values = numberOf (refusal (valueChecks ones holding 1 1 (replicate values 0) (getOwn holding 1)))
 
 -- its put
 abbrev pub putLent : ℕ → ℕ
 putLent values = numberOf (refusal (valueChecks ones holding 1 1 (replicate values 0) (putOwn holding 1)))
+
+-- its add, where it holds the node for adding
+abbrev pub addLent : ℕ → ℕ
+addLent values = let d = seat freshDesk 1 (Holding (lock Adding 1 1 1)) in numberOf (refusal (valueChecks ones d 1 1 (replicate values 0) (addOwn d 1)))
 
 -- its leave, lent so many bytes
 abbrev pub leaveLent : ℕ → ℕ
@@ -69,11 +73,13 @@ edges =
     ∷ is (one (tablesShort ones)) 0
     ∷ is (one (tablesShort (two (replicate 3 1)))) 1
     ∷ is (one (tablesShort (lent 2 (replicate 4 1) (0 ∷ []) 1))) 1
-    -- get and put also the n values
+    -- get, put and add also the n values
     ∷ is (getLent 2) 0
     ∷ is (getLent 1) 1
     ∷ is (putLent 2) 0
     ∷ is (putLent 1) 1
+    ∷ is (addLent 2) 0
+    ∷ is (addLent 1) 1
     -- enter as many names as its name count says
     ∷ is (entering 1 (1 ∷ []) 1) 0
     ∷ is (entering 1 [] 1) 1
@@ -127,12 +133,24 @@ edges =
     ∷ is (oneGrantMore 4294967294) 4294967295
     ∷ is (oneGrantMore 4294967295) 4294967295
     ∷ is (sum (replicate 32 4294967295)) 137438953440
-    -- conflict of two holds, as the C host asks: intervals that meet, that do not, both reading; modes 0 and 3, low 0, ends at 256 and 257, low above high
+    -- an add's sum, below 2 to the 64 and past it
+    ∷ is (sum64 18446744073709551614 1) 18446744073709551615
+    ∷ is (sum64 18446744073709551615 1) 0
+    ∷ is (sum64 18446744073709551615 18446744073709551615) 18446744073709551614
+    -- conflict of two holds, as the C host asks: intervals that meet, that do not, and the nine pairs of modes; modes 0 and 4, low 0, ends at 256 and 257, low above high
     ∷ is (conflictCall 1 1 4 2 4 9) 1
     ∷ is (conflictCall 1 1 4 2 5 9) 0
     ∷ is (conflictCall 1 1 4 1 4 9) 0
+    ∷ is (conflictCall 1 1 4 3 4 9) 1
+    ∷ is (conflictCall 2 1 4 1 4 9) 1
+    ∷ is (conflictCall 2 1 4 2 4 9) 1
+    ∷ is (conflictCall 2 1 4 3 4 9) 1
+    ∷ is (conflictCall 3 1 4 1 4 9) 1
+    ∷ is (conflictCall 3 1 4 2 4 9) 1
+    ∷ is (conflictCall 3 1 4 3 4 9) 0
     ∷ is (conflictCall 0 1 4 1 4 9) 10
-    ∷ is (conflictCall 3 1 4 1 4 9) 10
+    ∷ is (conflictCall 4 1 4 1 4 9) 10
+    ∷ is (conflictCall 1 1 4 4 4 9) 10
     ∷ is (conflictCall 1 0 4 2 4 9) 10
     ∷ is (conflictCall 1 1 4 2 4 256) 1
     ∷ is (conflictCall 1 1 4 2 4 257) 10
@@ -205,21 +223,23 @@ enterWith mode nameCount = bytes16 (3 ∷ 0 ∷ mode ∷ nameCount ∷ [])
 -- the conditions of records
 unfoldable pub recordEdges : List Row
 recordEdges =
-    -- 4, kind: 1 size to 6 leave
+    -- 4, kind: 1 size to 7 add
     is (one (recordRight (bytes16 (0 ∷ [])))) 0
     ∷ is (one (recordRight (bytes16 (1 ∷ [])))) 1
     ∷ is (one (recordRight (bytes16 (6 ∷ [])))) 1
-    ∷ is (one (recordRight (bytes16 (7 ∷ [])))) 0
-    -- 4, mode: 1 reading, 2 writing
+    ∷ is (one (recordRight (bytes16 (7 ∷ [])))) 1
+    ∷ is (one (recordRight (bytes16 (8 ∷ [])))) 0
+    -- 4, mode: 1 reading, 2 writing, 3 adding
     ∷ is (one (recordRight (enterWith 0 1))) 0
     ∷ is (one (recordRight (enterWith 1 1))) 1
     ∷ is (one (recordRight (enterWith 2 1))) 1
-    ∷ is (one (recordRight (enterWith 3 1))) 0
+    ∷ is (one (recordRight (enterWith 3 1))) 1
+    ∷ is (one (recordRight (enterWith 4 1))) 0
     -- 4, name count: 1 to 8
     ∷ is (one (recordRight (enterWith 1 0))) 0
     ∷ is (one (recordRight (enterWith 1 8))) 1
     ∷ is (one (recordRight (enterWith 1 9))) 0
-    -- 4, unused byte of a record: size has bytes 1 and 2, edge 1 and 2, enter 1 to 3 and its names from 4 on, 11 at most, get 1 and 2, put 1, 2 and 4 to 11, leave 1
+    -- 4, unused byte of a record: size has bytes 1 and 2, edge 1 and 2, enter 1 to 3 and its names from 4 on, 11 at most, get 1 and 2, put 1, 2 and 4 to 11, leave 1, add as put
     ∷ is (recordWith (size 1) 2) 1
     ∷ is (recordWith (size 1) 3) 0
     ∷ is (recordWith (edge 0 1) 2) 1
@@ -237,6 +257,12 @@ recordEdges =
     ∷ is (recordWith (leave 0) 1) 1
     ∷ is (recordWith (leave 0) 2) 0
     ∷ is (recordWith (put 0 1 1) 15) 0
+    ∷ is (recordWith (add 0 1 1) 2) 1
+    ∷ is (recordWith (add 0 1 1) 3) 0
+    ∷ is (recordWith (add 0 1 1) 4) 1
+    ∷ is (recordWith (add 0 1 1) 11) 1
+    ∷ is (recordWith (add 0 1 1) 12) 0
+    ∷ is (recordWith (add 0 1 1) 15) 0
     -- 4, order: one size record comes first, then all edges, then steps
     ∷ is (writingRecords (edge 0 1) 1 512) 4
     ∷ is (writingRecords (size 2 ++ size 2) 2 512) 4
@@ -321,15 +347,21 @@ soundEdges =
     -- no two holders conflict: two readers of node 1, a reader and a writer
     ∷ are (clauses ones (holdsNode reader 3 Reading 1 1)) allHold
     ∷ are (clauses ones (holdsNode reader 3 Writing 1 1)) (allBut 5)
+    -- two who add; one who adds, and a reader
+    ∷ are (clauses ones (holdsNode (holdsNode freshDesk 1 Adding 1 1) 3 Adding 1 1)) allHold
+    ∷ are (clauses ones (holdsNode reader 3 Adding 1 1)) (allBut 5)
     -- each waiter conflicts with a holder: beside a reader one that writes, and one that reads
     ∷ are (clauses ones (callsListed reader 2 Writing)) allHold
     ∷ are (clauses ones (callsListed reader 2 Reading)) (allBut 6)
+    -- and beside one who adds one that reads, and one that adds
+    ∷ are (clauses ones (callsListed (holdsNode freshDesk 1 Adding 1 1) 2 Reading)) allHold
+    ∷ are (clauses ones (callsListed (holdsNode freshDesk 1 Adding 1 1) 2 Adding)) (allBut 6)
     -- or an earlier waiter: the one that reads behind the one that writes, and before it
     ∷ are (clauses ones (callsListed (callsListed reader 2 Writing) 3 Reading)) allHold
     ∷ are (clauses ones (callsListed (callsListed reader 3 Reading) 2 Writing)) (allBut 6)
     ∷ []
 
--- STEPS. 11 to 17 by the steps of a file over table T: each refused beside one that is not
+-- STEPS. 11 to 18 by the steps of a file over table T: each refused beside one that is not
 unfoldable pub fileEdges : List (List ℕ)
 fileEdges =
     size 10
@@ -348,6 +380,9 @@ fileEdges =
     ∷ leave 31
     ∷ put 4 3 1
     ∷ get 4 3
+    ∷ enter1 6 3 4
+    ∷ get 6 4
+    ∷ add 6 4 7
     ∷ []
 
 -- what its listing has
@@ -368,5 +403,8 @@ stepEdges =
     ∷ left (4 ∷ [])
     ∷ stored
     ∷ value 1
+    ∷ granted 4
+    ∷ refused 18
+    ∷ added
     ∷ [])
-    1 0 2 (4 ∷ 1 ∷ 31 ∷ 1 ∷ [])
+    2 0 3 (4 ∷ 1 ∷ 6 ∷ 1 ∷ 31 ∷ 1 ∷ [])

@@ -4,7 +4,7 @@ use Prim.Native.Nat.{ℕ, _+_}
 use lib.ListN.{length, set, take, replicate}
 use Rattle.lists.specs.Lists.{one}
 use Rattle.locks.specs.declared.Mode.{Mode}
-use Rattle.locks.specs.declared.Mode.the-variants.{Reading, Writing}
+use Rattle.locks.specs.declared.Mode.the-variants.{Reading, Writing, Adding}
 use Rattle.locks.specs.declared.Lock.{Lock}
 use Rattle.locks.specs.declared.Stage.{Stage}
 use Rattle.locks.specs.declared.Stage.the-variants.{Out, Waiting, Holding}
@@ -14,11 +14,11 @@ use Rattle.locks.specs.Lent.{Hierarchy, lent}
 use Rattle.parties.specs.Parties.{entryOf}
 use Rattle.desk.specs.Desks.{freshDesk}
 use Rattle.desk.specs.Sound.{soundDesk}
-use Rattle.locks.specs.Stages.{isReading}
-use Rattle.desk.specs.Steps.{enterStep, getStep, putStep, LeaveResult, leaveStep}
+use Rattle.locks.specs.Locks.{modeNumber}
+use Rattle.desk.specs.Steps.{enterStep, getStep, putStep, addStep, LeaveResult, leaveStep}
 use Rattle.runs.specs.Run.{listed}
-use Rattle.replay.specs.Replay.{StepAnswer, granted, waits, value, stored, left, refused, enterLine, getLine, putLine, leaveLine, stateOf, perform}
-use Rattle.examples.specs.Table.{T, bytes16, size, edge, enter1, get, put, leave}
+use Rattle.replay.specs.Replay.{StepAnswer, granted, waits, value, stored, added, left, refused, enterLine, getLine, putLine, addLine, leaveLine, stateOf, perform}
+use Rattle.examples.specs.Table.{T, bytes16, size, edge, enter1, get, put, leave, add}
 use Rattle.examples.specs.Rows.{Row, is, are, answer}
 
 -- T's intervals
@@ -62,6 +62,13 @@ three =
 abbrev pub four : Desk
 four = list (seat three 4 (Waiting (lock Reading 0 1 4))) 4
 
+-- 1 adds in 5 and 3 in 2, both at once; 2 waits to read 2, and 4, behind it, to add in 0
+abbrev pub adders : Desk
+adders =
+    list (list
+    (seat (seat (seat (seat freshDesk 1 (Holding (lock Adding 5 3 3))) 3 (Holding (lock Adding 2 3 4))) 2 (Waiting (lock Reading 2 3 4))) 4 (Waiting (lock Adding 0 1 4)))
+    2) 4
+
 -- the desk after an enter over T
 abbrev pub afterEnter : Desk → ℕ → Mode → List ℕ → Desk
 afterEnter d party mode names = (enterStep tableT d party mode names (length names)) .desk
@@ -71,11 +78,11 @@ abbrev pub stepped : Desk
 stepped =
     afterEnter (afterEnter (afterEnter (afterEnter freshDesk 1 Writing (7 ∷ [])) 2 Reading (6 ∷ [])) 3 Reading (3 ∷ [])) 4 Reading (4 ∷ 5 ∷ [])
 
--- a stage as numbers: out, waiting or holding, then the lock
+-- a stage as numbers: out, waiting or holding, then the lock with its mode's number
 abbrev pub stageNumbers : Stage → List ℕ
 stageNumbers Out = 0 ∷ []
-stageNumbers (Waiting l) = 1 ∷ one (isReading (l .mode)) ∷ l .cover ∷ l .low ∷ l .high ∷ []
-stageNumbers (Holding l) = 2 ∷ one (isReading (l .mode)) ∷ l .cover ∷ l .low ∷ l .high ∷ []
+stageNumbers (Waiting l) = 1 ∷ modeNumber (l .mode) ∷ l .cover ∷ l .low ∷ l .high ∷ []
+stageNumbers (Holding l) = 2 ∷ modeNumber (l .mode) ∷ l .cover ∷ l .low ∷ l .high ∷ []
 
 -- the stages of all parties
 unfoldable pub allStages : List Entry → List ℕ
@@ -98,6 +105,14 @@ gets values d party node = getLine ((getStep tableT d party node (replicate valu
 abbrev pub puts : ℕ → Desk → ℕ → ℕ → List StepAnswer
 puts values d party node = putLine ((putStep tableT d party node 1 (replicate values 100)) .answer) ∷ []
 
+-- add to so many values
+abbrev pub adds : ℕ → Desk → ℕ → ℕ → List StepAnswer
+adds values d party node = addLine ((addStep tableT d party node 1 (replicate values 100)) .answer) ∷ []
+
+-- enter with a mode and one name
+abbrev pub entersAs : Mode → Desk → ℕ → ℕ → List StepAnswer
+entersAs mode d party name = enterLine ((enterStep tableT d party mode (name ∷ []) 1) .answer) ∷ []
+
 -- what a leave comes to
 abbrev pub leftLine : LeaveResult → StepAnswer
 leftLine r = leaveLine (listed (r .list) (r .answer))
@@ -106,22 +121,27 @@ leftLine r = leaveLine (listed (r .list) (r .answer))
 abbrev pub leaves : ℕ → Desk → ℕ → List StepAnswer
 leaves bytes d party = leftLine (leaveStep tableT d party (replicate bytes 170)) ∷ []
 
--- all four over a hierarchy: enter 5 writing {7}, get 1 9, put 1 9, leave 1
-abbrev pub allFour : Hierarchy → Desk → List StepAnswer
-allFour H d =
+-- all five over a hierarchy: enter 5 writing {7}, get 1 9, put 1 9, add 1 9, leave 1
+abbrev pub allFive : Hierarchy → Desk → List StepAnswer
+allFive H d =
     enterLine ((enterStep H d 5 Writing (7 ∷ []) 1) .answer)
     ∷ getLine ((getStep H d 1 9 (replicate 10 100)) .answer)
     ∷ putLine ((putStep H d 1 9 77 (replicate 10 100)) .answer)
+    ∷ addLine ((addStep H d 1 9 77 (replicate 10 100)) .answer)
     ∷ leftLine (leaveStep H d 1 (replicate 34 170))
     ∷ []
 
 -- each is refused with this number
 abbrev pub all : ℕ → List StepAnswer
-all k = refused k ∷ refused k ∷ refused k ∷ refused k ∷ []
+all k = refused k ∷ refused k ∷ refused k ∷ refused k ∷ refused k ∷ []
 
--- none is refused on the desk after four steps
+-- none is refused on the desk after four steps but the add, last of all, since 1 writes
 abbrev pub good : List StepAnswer
-good = waits ∷ value 100 ∷ stored ∷ left (2 ∷ 4 ∷ []) ∷ []
+good = waits ∷ value 100 ∷ stored ∷ refused 18 ∷ left (2 ∷ 4 ∷ []) ∷ []
+
+-- on a desk where nobody is in
+abbrev pub nobody : List StepAnswer
+nobody = refused 15 ∷ refused 13 ∷ refused 13 ∷ refused 13 ∷ refused 13 ∷ []
 
 -- REFUSALS of what one step alone is lent and asks for, lowest number first; where two apply, the lower is given
 unfoldable pub steps : List Row
@@ -202,50 +222,97 @@ steps =
     -- 17
     ∷ answer (gets 10 four 3 3) (value 100 ∷ [])
     ∷ answer (puts 10 four 3 3) (refused 17 ∷ [])
+    -- ADD. 1: nine values, also where 11 or 18 holds
+    ∷ answer (adds 9 adders 1 9) (refused 1 ∷ [])
+    ∷ answer (adds 9 adders 32 9) (refused 1 ∷ [])
+    ∷ answer (adds 9 four 1 9) (refused 1 ∷ [])
+    -- 11
+    ∷ answer (adds 10 adders 32 9) (refused 11 ∷ [])
+    ∷ answer (adds 10 adders 18446744073709551615 9) (refused 11 ∷ [])
+    ∷ answer (adds 10 adders 257 9) (refused 11 ∷ [])
+    -- 13; 13 before 15 and 18
+    ∷ answer (adds 10 freshDesk 4 9) (refused 13 ∷ [])
+    ∷ answer (adds 10 adders 5 10) (refused 13 ∷ [])
+    -- 14: one that waits to add, and one that waits to read; 14 before 15, 16 and 18
+    ∷ answer (adds 10 adders 4 9) (refused 14 ∷ [])
+    ∷ answer (adds 10 adders 4 10) (refused 14 ∷ [])
+    ∷ answer (adds 10 adders 2 3) (refused 14 ∷ [])
+    ∷ answer (gets 10 adders 4 9) (refused 14 ∷ [])
+    ∷ answer (puts 10 adders 4 9) (refused 14 ∷ [])
+    -- 15; 15 before 16 and 18
+    ∷ answer (adds 10 adders 1 10) (refused 15 ∷ [])
+    ∷ answer (adds 10 four 1 10) (refused 15 ∷ [])
+    ∷ answer (gets 10 adders 1 10) (refused 15 ∷ [])
+    ∷ answer (puts 10 adders 1 10) (refused 15 ∷ [])
+    -- 16; 16 before 18, in an adding visit, a writing and a reading one
+    ∷ answer (adds 10 adders 1 8) (refused 16 ∷ [])
+    ∷ answer (gets 10 adders 1 8) (refused 16 ∷ [])
+    ∷ answer (puts 10 adders 1 8) (refused 16 ∷ [])
+    ∷ answer (adds 10 four 1 8) (refused 16 ∷ [])
+    ∷ answer (adds 10 four 3 4) (refused 16 ∷ [])
+    -- 18: get and put in an adding visit, add in a writing and in a reading one
+    ∷ answer (gets 10 adders 1 9) (refused 18 ∷ [])
+    ∷ answer (puts 10 adders 1 9) (refused 18 ∷ [])
+    ∷ answer (adds 10 four 1 9) (refused 18 ∷ [])
+    ∷ answer (adds 10 four 3 3) (refused 18 ∷ [])
+    -- two adding visits at one node, and each elsewhere
+    ∷ answer (adds 10 adders 1 9) (added ∷ [])
+    ∷ answer (adds 10 adders 3 9) (added ∷ [])
+    ∷ answer (adds 10 adders 3 8) (added ∷ [])
+    ∷ answer (adds 10 (seat freshDesk 31 (Holding (lock Adding 3 1 1))) 31 3) (added ∷ [])
+    -- WHO IS LET IN: beside one who adds in 5, to add there, to read, to write; beside a reader and a writer, to add
+    ∷ answer (entersAs Adding (seat freshDesk 1 (Holding (lock Adding 5 3 3))) 5 9) (granted 5 ∷ [])
+    ∷ answer (entersAs Reading (seat freshDesk 1 (Holding (lock Adding 5 3 3))) 5 9) (waits ∷ [])
+    ∷ answer (entersAs Writing (seat freshDesk 1 (Holding (lock Adding 5 3 3))) 5 9) (waits ∷ [])
+    ∷ answer (entersAs Adding (seat freshDesk 1 (Holding (lock Reading 5 3 3))) 5 9) (waits ∷ [])
+    ∷ answer (entersAs Adding (seat freshDesk 1 (Holding (lock Writing 5 3 3))) 5 9) (waits ∷ [])
+    -- to add beside those who add, but behind 2, which waits to read; where nobody is, it is let in
+    ∷ answer (entersAs Adding adders 5 8) (waits ∷ [])
+    ∷ answer (entersAs Adding (seat freshDesk 3 (Holding (lock Adding 2 3 4))) 5 8) (granted 8 ∷ [])
     ∷ []
 
 -- two nodes with these intervals and the edge between them, on a fresh desk: node 7, which enter names, is not below 2
 abbrev pub spans : List ℕ → List StepAnswer
-spans intervals = allFour (lent 2 intervals (0 ∷ 1 ∷ []) 1) freshDesk
+spans intervals = allFive (lent 2 intervals (0 ∷ 1 ∷ []) 1) freshDesk
 
 -- two nodes of interval [1,1] with these edges
 abbrev pub edged : List ℕ → ℕ → List StepAnswer
-edged edges edgeCount = allFour (lent 2 (1 ∷ 1 ∷ 1 ∷ 1 ∷ []) edges edgeCount) freshDesk
+edged edges edgeCount = allFive (lent 2 (1 ∷ 1 ∷ 1 ∷ 1 ∷ []) edges edgeCount) freshDesk
 
 -- T with another interval of node 4, and numbers behind the table
 abbrev pub node4 : ℕ → ℕ → List ℕ → List StepAnswer
-node4 low high past = allFour (lent 10 (set (set intervalsT 8 low) 9 high ++ past) T 11) four
+node4 low high past = allFive (lent 10 (set (set intervalsT 8 low) 9 high ++ past) T 11) four
 
 -- THE TABLES that every step is lent: 1, 5, 6, 7 and 10
 unfoldable pub tables : List Row
 tables =
-    answer (allFour tableT four) good
+    answer (allFive tableT four) good
     -- 1: places and edge numbers, also where twice a number would wrap; 1 before 5
-    ∷ answer (allFour (lent 2 (1 ∷ 1 ∷ 1 ∷ []) (0 ∷ 1 ∷ []) 1) freshDesk) (all 1)
-    ∷ answer (allFour (lent 10 (take 19 intervalsT) T 11) four) (all 1)
-    ∷ answer (allFour (lent 10 [] T 11) four) (all 1)
-    ∷ answer (allFour (lent 10 intervalsT (take 21 T) 11) four) (all 1)
-    ∷ answer (allFour (lent 10 intervalsT (take 21 T) 10) four) good
-    ∷ answer (allFour (lent 9223372036854775808 intervalsT T 11) four) (all 1)
-    ∷ answer (allFour (lent 10 intervalsT T 9223372036854775819) four) (all 1)
-    ∷ answer (allFour (lent 0 intervalsT (take 21 T) 11) four) (all 1)
+    ∷ answer (allFive (lent 2 (1 ∷ 1 ∷ 1 ∷ []) (0 ∷ 1 ∷ []) 1) freshDesk) (all 1)
+    ∷ answer (allFive (lent 10 (take 19 intervalsT) T 11) four) (all 1)
+    ∷ answer (allFive (lent 10 [] T 11) four) (all 1)
+    ∷ answer (allFive (lent 10 intervalsT (take 21 T) 11) four) (all 1)
+    ∷ answer (allFive (lent 10 intervalsT (take 21 T) 10) four) good
+    ∷ answer (allFive (lent 9223372036854775808 intervalsT T 11) four) (all 1)
+    ∷ answer (allFive (lent 10 intervalsT T 9223372036854775819) four) (all 1)
+    ∷ answer (allFive (lent 0 intervalsT (take 21 T) 11) four) (all 1)
     -- 5
-    ∷ answer (allFour (lent 0 intervalsT T 11) four) (all 5)
-    ∷ answer (allFour (lent 0 [] [] 0) four) (all 5)
+    ∷ answer (allFive (lent 0 intervalsT T 11) four) (all 5)
+    ∷ answer (allFive (lent 0 [] [] 0) four) (all 5)
     -- 6 before 7; a step does not look at 8
-    ∷ answer (allFour (lent 10 intervalsT (replicate 2050 0) 1025) four) (all 6)
-    ∷ answer (allFour (lent 10 intervalsT (replicate 2050 0) 1024) four) (all 7)
-    ∷ answer (allFour (lent 10 intervalsT (0 ∷ 1 ∷ 0 ∷ 1 ∷ []) 2) four) good
+    ∷ answer (allFive (lent 10 intervalsT (replicate 2050 0) 1025) four) (all 6)
+    ∷ answer (allFive (lent 10 intervalsT (replicate 2050 0) 1024) four) (all 7)
+    ∷ answer (allFive (lent 10 intervalsT (0 ∷ 1 ∷ 0 ∷ 1 ∷ []) 2) four) good
     -- 7: equal ends, child 0, a child and a parent not below n, a later edge; past the edge count it is not looked at; 7 before 10
     ∷ answer (edged (1 ∷ 1 ∷ []) 1) (all 7)
     ∷ answer (edged (1 ∷ 0 ∷ []) 1) (all 7)
     ∷ answer (edged (0 ∷ 2 ∷ []) 1) (all 7)
     ∷ answer (edged (2 ∷ 1 ∷ []) 1) (all 7)
     ∷ answer (edged (0 ∷ 1 ∷ 1 ∷ 1 ∷ []) 2) (all 7)
-    ∷ answer (edged (0 ∷ 1 ∷ 1 ∷ 1 ∷ []) 1) (refused 15 ∷ refused 13 ∷ refused 13 ∷ refused 13 ∷ [])
-    ∷ answer (allFour (lent 2 (0 ∷ 1 ∷ 0 ∷ 1 ∷ []) (1 ∷ 1 ∷ []) 1) freshDesk) (all 7)
+    ∷ answer (edged (0 ∷ 1 ∷ 1 ∷ 1 ∷ []) 1) nobody
+    ∷ answer (allFive (lent 2 (0 ∷ 1 ∷ 0 ∷ 1 ∷ []) (1 ∷ 1 ∷ []) 1) freshDesk) (all 7)
     -- 10: intervals of two nodes
-    ∷ answer (spans (1 ∷ 256 ∷ 256 ∷ 256 ∷ [])) (refused 15 ∷ refused 13 ∷ refused 13 ∷ refused 13 ∷ [])
+    ∷ answer (spans (1 ∷ 256 ∷ 256 ∷ 256 ∷ [])) nobody
     ∷ answer (spans (0 ∷ 4 ∷ 1 ∷ 1 ∷ [])) (all 10)
     ∷ answer (spans (0 ∷ 4 ∷ 0 ∷ 1 ∷ [])) (all 10)
     ∷ answer (spans (1 ∷ 257 ∷ 1 ∷ 1 ∷ [])) (all 10)
@@ -307,6 +374,13 @@ desks =
     ∷ is (sound (seat four 31 (Holding (lock Writing 3 1 1)))) 0
     ∷ is (sound (seat four 5 (Holding (lock Reading 2 3 4)))) 0
     ∷ is (sound (seat four 5 (Holding (lock Writing 9 3 3)))) 0
+    -- two who add do not conflict, one who adds with a reader and with a writer does
+    ∷ is (sound adders) 1
+    ∷ is (sound (seat four 5 (Holding (lock Adding 3 1 1)))) 0
+    ∷ is (sound (seat four 5 (Holding (lock Adding 9 3 3)))) 0
+    ∷ is (sound (last (seat freshDesk 1 (Holding (lock Adding 3 1 1))) 6 Adding)) 0
+    ∷ is (sound (last (seat freshDesk 1 (Holding (lock Adding 3 1 1))) 6 Reading)) 1
+    ∷ is (sound (last four 6 Adding)) 1
     -- waiters that conflict with nobody before them, and some that do
     ∷ is (sound (last four 6 Reading)) 0
     ∷ is (sound (last (last four 6 Reading) 7 Writing)) 0
@@ -314,9 +388,9 @@ desks =
     ∷ is (sound (last four 6 Writing)) 1
     ∷ is (sound (last freshDesk 6 Writing)) 0
     -- what the steps answer on an unsound desk, and on one with another waiter; 10 before 11 to 17
-    ∷ answer (allFour tableT (counting four 1)) (all 10)
-    ∷ answer (allFour tableT (seat four 4 (Waiting (lock Writing 0 1 4)))) (waits ∷ value 100 ∷ stored ∷ left (2 ∷ []) ∷ [])
-    ∷ answer (allFour tableT (seat four 5 (Holding (lock Reading 3 1 1)))) (refused 12 ∷ value 100 ∷ stored ∷ left (2 ∷ 4 ∷ []) ∷ [])
+    ∷ answer (allFive tableT (counting four 1)) (all 10)
+    ∷ answer (allFive tableT (seat four 4 (Waiting (lock Writing 0 1 4)))) (waits ∷ value 100 ∷ stored ∷ refused 18 ∷ left (2 ∷ []) ∷ [])
+    ∷ answer (allFive tableT (seat four 5 (Holding (lock Reading 3 1 1)))) (refused 12 ∷ value 100 ∷ stored ∷ refused 18 ∷ left (2 ∷ 4 ∷ []) ∷ [])
     ∷ answer (enters (counting four 1) 32 (3 ∷ []) 1) (refused 10 ∷ [])
     ∷ answer (enters (counting four 1) 1 [] 0) (refused 10 ∷ [])
     ∷ answer (gets 10 (counting four 1) 5 9) (refused 10 ∷ [])
@@ -330,6 +404,18 @@ desks =
     ∷ are ((leaveStep tableT four 5 (replicate 34 170)) .list) (replicate 34 170)
     ∷ are ((putStep tableT four 1 9 77 (replicate 10 100)) .values) (replicate 9 100 ++ (77 ∷ []))
     ∷ are ((putStep tableT four 3 3 1 (replicate 10 100)) .values) (replicate 10 100)
+    -- of twelve, an add leaves the sum at its node, modulo 2 to the 64; nothing where it is refused
+    ∷ are ((addStep tableT adders 1 9 77 (replicate 12 100)) .values) (replicate 9 100 ++ (177 ∷ 100 ∷ 100 ∷ []))
+    ∷ are ((addStep tableT adders 3 9 77 ((addStep tableT adders 1 9 5 (replicate 10 100)) .values)) .values) (replicate 9 100 ++ (182 ∷ []))
+    ∷ are ((addStep tableT adders 1 9 18446744073709551515 (replicate 10 100)) .values) (replicate 9 100 ++ (18446744073709551615 ∷ []))
+    ∷ are ((addStep tableT adders 1 9 18446744073709551516 (replicate 10 100)) .values) (replicate 9 100 ++ (0 ∷ []))
+    ∷ are ((addStep tableT adders 1 9 18446744073709551615 (replicate 10 100)) .values) (replicate 9 100 ++ (99 ∷ []))
+    ∷ are ((addStep tableT four 1 9 77 (replicate 10 100)) .values) (replicate 10 100)
+    ∷ are (deskNumbers ((addStep tableT adders 1 9 77 (replicate 10 100)) .desk)) (deskNumbers adders)
+    -- when 3 and 1 have left, 2 reads; when 2 leaves, 4 adds, which 2 held up
+    ∷ are ((leaveStep tableT adders 3 (replicate 32 0)) .list) (replicate 32 0)
+    ∷ answer (leaves 32 ((leaveStep tableT adders 3 (replicate 32 0)) .desk) 1) (left (2 ∷ []) ∷ [])
+    ∷ answer (leaves 32 adders 2) (left (4 ∷ []) ∷ [])
     -- an enter that is granted counts for its party, up to the stop
     ∷ are ((enterStep tableT (granting freshDesk 0 4294967293) 0 Writing (3 ∷ []) 1) .desk .grants) (4294967294 ∷ replicate 31 0)
     ∷ are ((enterStep tableT (granting freshDesk 0 4294967294) 0 Writing (3 ∷ []) 1) .desk .grants) (4294967295 ∷ replicate 31 0)
@@ -369,15 +455,16 @@ records =
     ∷ answer (performing tableT (get 1 9)) (value 100 ∷ [])
     ∷ answer (performing tableT (put 1 9 77)) (stored ∷ [])
     ∷ are (performedTo tableT (put 1 9 77)) (deskNumbers four ++ set (replicate 10 100) 9 77)
-    -- kinds that are no step's: none, size, edge, 7
+    -- kinds that are no step's: none, size, edge, 8; a 7 is an add, which 3, a reader, may not
     ∷ answer (performing tableT (bytes16 [])) (refused 4 ∷ [])
     ∷ answer (performing tableT (size 10)) (refused 4 ∷ [])
     ∷ answer (performing tableT (edge 0 1)) (refused 4 ∷ [])
-    ∷ answer (performing tableT (bytes16 (7 ∷ 3 ∷ []))) (refused 4 ∷ [])
+    ∷ answer (performing tableT (bytes16 (8 ∷ 3 ∷ []))) (refused 4 ∷ [])
+    ∷ answer (performing tableT (add 3 3 5)) (refused 18 ∷ [])
     -- desk and values are as they were
-    ∷ are (performedTo tableT (bytes16 (7 ∷ 3 ∷ []))) (deskNumbers four ++ replicate 10 100)
-    -- a mode other than 1 or 2, no name, an unused byte that is not zero
-    ∷ answer (performing tableT (enter1 5 3 3)) (refused 4 ∷ [])
+    ∷ are (performedTo tableT (bytes16 (8 ∷ 3 ∷ []))) (deskNumbers four ++ replicate 10 100)
+    -- a mode other than 1, 2 or 3, no name, an unused byte that is not zero
+    ∷ answer (performing tableT (enter1 5 4 3)) (refused 4 ∷ [])
     ∷ answer (performing tableT (bytes16 (3 ∷ 5 ∷ 1 ∷ 0 ∷ []))) (refused 4 ∷ [])
     ∷ answer (performing tableT (set (leave 3) 15 1)) (refused 4 ∷ [])
     -- 15 bytes, and 17
@@ -385,5 +472,5 @@ records =
     ∷ answer (performing tableT (leave 3 ++ (0 ∷ []))) (refused 4 ∷ [])
     -- lent no intervals: 1 to a right step, and still 4 to what is none
     ∷ answer (performing (lent 10 [] T 11) (leave 3)) (refused 1 ∷ [])
-    ∷ answer (performing (lent 10 [] T 11) (bytes16 (7 ∷ 3 ∷ []))) (refused 4 ∷ [])
+    ∷ answer (performing (lent 10 [] T 11) (bytes16 (8 ∷ 3 ∷ []))) (refused 4 ∷ [])
     ∷ []

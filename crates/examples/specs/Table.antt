@@ -45,6 +45,14 @@ put party node number = bytes16 (5 ∷ party ∷ node ∷ 0 ∷ number ∷ [])
 abbrev pub leave : ℕ → List ℕ
 leave party = bytes16 (6 ∷ party ∷ [])
 
+-- kind 7, add, of a number below 256
+abbrev pub add : ℕ → ℕ → ℕ → List ℕ
+add party node number = bytes16 (7 ∷ party ∷ node ∷ 0 ∷ number ∷ [])
+
+-- the greatest number, in bytes 4 to 11
+abbrev pub addMost : ℕ → ℕ → List ℕ
+addMost party node = bytes16 (7 ∷ party ∷ node ∷ 0 ∷ replicate 8 255)
+
 -- the file of T, its 22 records
 unfoldable pub fileT : List (List ℕ)
 fileT =

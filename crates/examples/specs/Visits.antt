@@ -1,9 +1,9 @@
 -- Visits of table T as files: what their steps answer, with holders, waiters and grants, all and by party, at the end. Assumes nothing.
 use mathlib.Core.List.{List, [], _∷_, _++_}
 use Prim.Native.Nat.{ℕ}
-use Rattle.replay.specs.Replay.{granted, waits, value, left, refused}
+use Rattle.replay.specs.Replay.{granted, waits, value, stored, added, left, refused}
 use Rattle.examples.specs.Cases.{Case, listing}
-use Rattle.examples.specs.Table.{size, edge, enter1, enter2, get, put, leave}
+use Rattle.examples.specs.Table.{size, edge, enter1, enter2, get, put, leave, add, addMost}
 
 -- the records of T
 abbrev pub recordsT : List (List ℕ)
@@ -33,6 +33,32 @@ ownRecord =
 abbrev pub arrivals : List (List ℕ)
 arrivals = enter1 31 2 0 ∷ enter1 9 1 3 ∷ enter1 4 1 4 ∷ enter1 20 2 4 ∷ enter1 0 1 8 ∷ leave 31 ∷ leave 4 ∷ []
 
+-- wards 1 and 2 log minutes on 9 at once, coordinator 3 waits to read it, and ward 4 behind the coordinator: 5 + 7, then 12 + 2^64 - 1 is 11 modulo 2^64
+abbrev pub minutes : List (List ℕ)
+minutes =
+    enter1 1 3 9
+    ∷ enter1 2 3 7
+    ∷ add 1 9 5
+    ∷ enter1 3 1 2
+    ∷ enter1 4 3 9
+    ∷ add 2 9 7
+    ∷ addMost 1 9
+    ∷ get 1 9
+    ∷ put 2 9 5
+    ∷ leave 1
+    ∷ leave 2
+    ∷ get 3 9
+    ∷ add 3 9 1
+    ∷ put 3 9 1
+    ∷ leave 3
+    ∷ add 4 9 1
+    ∷ leave 4
+    ∷ enter1 5 2 9
+    ∷ get 5 9
+    ∷ add 5 9 1
+    ∷ put 5 9 0
+    ∷ []
+
 -- the cases
 unfoldable pub visits : List Case
 visits =
@@ -43,4 +69,8 @@ visits =
     2 0 5 (1 ∷ 1 ∷ 2 ∷ 1 ∷ 3 ∷ 1 ∷ 4 ∷ 1 ∷ 5 ∷ 1 ∷ [])
     ∷ listing (recordsT ++ arrivals) (granted 0 ∷ waits ∷ waits ∷ waits ∷ waits ∷ left (9 ∷ 4 ∷ 0 ∷ []) ∷ left (20 ∷ []) ∷ []) 3 0 5
     (0 ∷ 1 ∷ 4 ∷ 1 ∷ 9 ∷ 1 ∷ 20 ∷ 1 ∷ 31 ∷ 1 ∷ [])
+    ∷ listing (recordsT ++ minutes)
+    (granted 5 ∷ granted 5 ∷ added ∷ waits ∷ waits ∷ added ∷ added ∷ refused 18 ∷ refused 18
+    ∷ left [] ∷ left (3 ∷ []) ∷ value 11 ∷ refused 18 ∷ refused 17 ∷ left (4 ∷ []) ∷ added ∷ left [] ∷ granted 5 ∷ value 12 ∷ refused 18 ∷ stored ∷ [])
+    1 0 5 (1 ∷ 1 ∷ 2 ∷ 1 ∷ 3 ∷ 1 ∷ 4 ∷ 1 ∷ 5 ∷ 1 ∷ [])
     ∷ []

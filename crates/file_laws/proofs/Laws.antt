@@ -21,10 +21,10 @@ use Rattle.blocks.specs.Record.{kindOf, partyIn, nodeIn, valueIn}
 use Rattle.blocks.specs.File.{fileChecks, fileRecords}
 use Rattle.locks.specs.Lent.{Hierarchy}
 use Rattle.desk.specs.Steps.{granted as admitted, Admission, waits as queued}
-use Rattle.runs.specs.Run.{Call, Event, entered, got, stored, left, State, Moved, afterEnter, afterGet, afterPut, afterLeave, moveCall, move, alsoRan, run}
-use Rattle.replay.specs.Replay.{enterCall, getCall, putCall, leaveCall, callOf, stepOf, enterLine, getLine, putLine, leaveLine, answerIn, performStep, FileRun, performAll}
+use Rattle.runs.specs.Run.{Call, Event, entered, got, stored, added, left, State, Moved, afterEnter, afterGet, afterPut, afterAdd, afterLeave, moveCall, move, alsoRan, run}
+use Rattle.replay.specs.Replay.{enterCall, getCall, putCall, leaveCall, addCall, callOf, stepOf, enterLine, getLine, putLine, addLine, leaveLine, answerIn, performStep, FileRun, performAll}
 use Rattle.replay.specs.Replay.{answersOf, builtOf, startOf, fileRun, sizeOf, stepRecords, edgeTable, edgeCountOf, runUnless, runRecords, recordList, runFile, fileUnless}
-use Rattle.replay.proofs.Outcomes.{call-3, call-4, call-5, call-6}
+use Rattle.replay.proofs.Outcomes.{call-3, call-4, call-5, call-6, call-7}
 use Rattle.replay.proofs.Records.{edge-table-length}
 use Rattle.history.specs.Serial.{Built, SerialSteps}
 use Rattle.history.proofs.Serializable.{demand-3}
@@ -45,6 +45,10 @@ module _ (r : List ℕ) where
   put-event e (done _) = refl
   put-event e (denied k) = ap (λ (c : Call). refusedEvent c k) e
 
+  add-event : callOf r ≡ addCall r → (a : Answer (Unit {0})) → eventOf r (addLine a) ≡ added (partyIn r) (nodeIn r) (valueIn r) a
+  add-event e (done _) = refl
+  add-event e (denied k) = ap (λ (c : Call). refusedEvent c k) e
+
   leave-event : callOf r ≡ leaveCall r → (a : Answer (List ℕ)) → eventOf r (leaveLine a) ≡ left (partyIn r) a
   leave-event e (done parties) = refl
   leave-event e (denied k) = ap (λ (c : Call). refusedEvent c k) e
@@ -58,7 +62,7 @@ module _ (r : List ℕ) where
     told-by c t e = subst Told (sym e) (t e)
 
     call-event : Told (callOf r)
-    unfolding moveCall afterEnter afterGet afterPut afterLeave
+    unfolding moveCall afterEnter afterGet afterPut afterAdd afterLeave
     call-event =
         bool (eqb (kindOf r) 3)
         (λ a. told-by (enterCall r) (λ e. enter-event e _) (call-3 r a))
@@ -66,7 +70,9 @@ module _ (r : List ℕ) where
         (λ b. told-by (getCall r) (λ e. get-event e _) (call-4 r a b))
         (λ b. bool (eqb (kindOf r) 5)
         (λ c. told-by (putCall r) (λ e. put-event e _) (call-5 r a b c))
-        (λ c. told-by (leaveCall r) (λ e. leave-event e _) (call-6 r a b c))))
+        (λ c. bool (eqb (kindOf r) 6)
+        (λ d. told-by (leaveCall r) (λ e. leave-event e _) (call-6 r a b c d))
+        (λ d. told-by (addCall r) (λ e. add-event e _) (call-7 r a b c d)))))
 
 -- of all steps of a file: what the book is fed are the events of the run, in which the record's kind says which step it is
 pub events-are : (rs : List (List ℕ)) (s : State) → (performAll s rs) .events ≡ eventsOf rs (answersOf (performAll s rs))

@@ -5,8 +5,8 @@ use lib.ListN.{replicate}
 use Rattle.lists.specs.Answer.{done, refused as denied}
 use Rattle.blocks.specs.Record.{partyIn, nodeIn, valueIn}
 use Rattle.desk.specs.Steps.{granted as admitted, waits as queued}
-use Rattle.runs.specs.Run.{Call, enter, get, put, leave, Event, entered, got, stored as wrote, left as gone}
-use Rattle.replay.specs.Replay.{callOf, StepAnswer, granted, waits, value, stored, left, refused, FileRun, sizeOf, stepRecords}
+use Rattle.runs.specs.Run.{Call, enter, get, put, add, leave, Event, entered, got, stored as wrote, added as summed, left as gone}
+use Rattle.replay.specs.Replay.{callOf, StepAnswer, granted, waits, value, stored, added, left, refused, FileRun, sizeOf, stepRecords}
 use Rattle.history.specs.Serial.{SerialSteps}
 
 -- the event of a call that was refused
@@ -14,6 +14,7 @@ abbrev pub refusedEvent : Call → ℕ → Event ℕ
 refusedEvent (enter party mode names nameCount) k = entered party (denied k)
 refusedEvent (get party node l) k = got party node (denied k)
 refusedEvent (put party node number l) k = wrote party node number (denied k)
+refusedEvent (add party node number l) k = summed party node number (denied k)
 refusedEvent (leave party list) k = gone party (denied k)
 
 -- the event of a step record and its answer: which step it is, the party, the node and number given, and the answer.
@@ -23,6 +24,7 @@ eventOf r (granted cover) = entered (partyIn r) (done (admitted cover))
 eventOf r waits = entered (partyIn r) (done queued)
 eventOf r (value number) = got (partyIn r) (nodeIn r) (done number)
 eventOf r stored = wrote (partyIn r) (nodeIn r) (valueIn r) (done tt)
+eventOf r added = summed (partyIn r) (nodeIn r) (valueIn r) (done tt)
 eventOf r (left parties) = gone (partyIn r) (done parties)
 eventOf r (refused k) = refusedEvent (callOf r) k
 

@@ -1,4 +1,4 @@
--- Which holders there are after a step, and what an unrefused get or put knows. Assumes nothing.
+-- Which holders there are after a step, and what an unrefused get, put or add knows. Assumes nothing.
 use mathlib.Core.Path.{_≡_, refl, sym, ap, _∙_}
 use mathlib.Core.Logic.{_⊎_, inl, inr, _≢_}
 use mathlib.Core.List.{List, [], _∷_, _++_, map}
@@ -13,14 +13,12 @@ use Rattle.lists.specs.Lists.{allBelow, anyBelow}
 use Rattle.lists.specs.Answer.{Check, refusal}
 use Rattle.lists.proofs.Bools.{bool, and-left, and-right}
 use Rattle.lists.proofs.Bounded.{all-at}
-use Rattle.locks.specs.declared.Mode.{Mode}
-use Rattle.locks.specs.declared.Mode.the-variants.{Reading, Writing}
 use Rattle.locks.specs.declared.Lock.{Lock}
 use Rattle.locks.specs.declared.Stage.{Stage}
 use Rattle.locks.specs.declared.Stage.the-variants.{Out, Waiting, Holding}
 use Rattle.parties.specs.declared.Entry.{Entry}
 use Rattle.desk.specs.declared.Desk.{Desk}
-use Rattle.locks.specs.Locks.{bothReading, conflict}
+use Rattle.locks.specs.Locks.{conflict}
 use Rattle.locks.specs.Lent.{Hierarchy, lowIn, highIn, intervalWrong}
 use Rattle.locks.specs.Stages.{holdersConflict}
 use Rattle.parties.specs.Parties.{entryOf, stageIn, meetsHolder, meetsWaiter}
@@ -33,6 +31,7 @@ use Rattle.desk.specs.Steps.{StepFacts, NodeFacts, valueChecks}
 use Rattle.locks.proofs.Tables.{not-wrong}
 use Rattle.desk.proofs.Facts.{step-own, step-facts, node-own-none, node-facts}
 use Rattle.history.specs.History.{begun, visited}
+use Rattle.history.proofs.Rows.{compatible-sym}
 
 -- STAGES. A holder after a store held before, or is the one stored
 pub set-stage : (es : List Entry) (p q : ℕ) (x : Stage) (h : Lock) → stageIn (set es p (entryOf x)) q ≡ Holding h → ((p ≡ q) × (x ≡ Holding h)) ⊎ (stageIn es q ≡ Holding h)
@@ -125,13 +124,7 @@ sweep-holds p h (q ∷ qs) s e = step (sweep-holds p h qs (offer s q) e)
 
 -- HOLDERS. What conflicts with another, the other conflicts with it
 pub conflict-sym : (a b : Lock) → conflict a b ≡ conflict b a
-conflict-sym a b = rw (and-comm (leb (a .low) (b .high)) (leb (b .low) (a .high)), both (a .mode) (b .mode))
-  where
-    both : (m k : Mode) → bothReading m k ≡ bothReading k m
-    both Reading Reading = refl
-    both Reading Writing = refl
-    both Writing Reading = refl
-    both Writing Writing = refl
+conflict-sym a b = rw (and-comm (leb (a .low) (b .high)) (leb (b .low) (a .high)), compatible-sym (a .mode) (b .mode))
 
 -- no two holders conflict, from the test of the desk
 pub holders-apart : (H : Hierarchy) (d : Desk) → soundDesk H d ≡ true → (p q : ℕ) (g h : Lock) → p < 32 → q < 32 → p ≢ q
@@ -156,7 +149,7 @@ right-ordered H right node h =
     let high = highIn H node in
     leb-true low high (and-right (leb 1 low) (leb low high) (and-left (leb 1 low && leb low high) (leb high 256) (not-wrong H node right h .0)))
 
--- WHAT A GET OR PUT THAT IS NOT REFUSED KNOWS, over the tables as lent: what every step knows, and what it knows of its node
+-- WHAT A GET, PUT OR ADD THAT IS NOT REFUSED KNOWS, over the tables as lent: what every step knows, and what it knows of its node
 pub record Touch (H : Hierarchy) (d : Desk) (party node : ℕ) (values : List ℕ) : Type 0 where
   pub step : StepFacts H d party (ltb (length values) (H .n))
   pub at-node : NodeFacts H d party node

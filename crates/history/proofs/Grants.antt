@@ -15,9 +15,9 @@ use Rattle.locks.specs.declared.Lock.{Lock}
 use Rattle.locks.specs.Lent.{Hierarchy, coverIn, lockOn}
 use Rattle.grants.specs.Grants.{oneGrantMore, countGrant, countGrants}
 use Rattle.desk.specs.declared.Desk.{Desk}
-use Rattle.desk.specs.Steps.{free, enterRefusal, enterIf, enterUnless, enterStep, valueChecks, getUnless, getStep, putOwn, putUnless, putStep}
-use Rattle.desk.specs.Steps.{afterLeaving, leaveRefusal, leaveUnless, leaveStep}
-use Rattle.runs.specs.Run.{lend, Call, enter, get, put, leave, State, Moved, listed, lentTo, afterEnter, afterGet, afterPut, afterLeave, moveCall, move}
+use Rattle.desk.specs.Steps.{free, enterRefusal, enterIf, enterUnless, enterStep, valueChecks, getOwn, getUnless, getStep, putOwn, putUnless, putStep}
+use Rattle.desk.specs.Steps.{sum64, addOwn, addStep, afterLeaving, leaveRefusal, leaveUnless, leaveStep}
+use Rattle.runs.specs.Run.{lend, Call, enter, get, put, add, leave, State, Moved, listed, lentTo, afterEnter, afterGet, afterPut, afterAdd, afterLeave, moveCall, move}
 use Rattle.runs.specs.Run.{Step, alsoRan, run}
 use Rattle.history.specs.History.{grantedBy, grantedIn}
 
@@ -79,6 +79,11 @@ module _ (s : State) where
   put-counts party node value values (some k) = refl
   put-counts party node value values none = refl
 
+  add-counts : (party node number sum : ℕ) (values : List ℕ) (o : Option ℕ) → Counts s (afterAdd party node number s (putUnless o d node sum values))
+  unfolding countGrants grantedBy afterAdd
+  add-counts party node number sum values (some k) = refl
+  add-counts party node number sum values none = refl
+
   leave-counts : (party : ℕ) (list : List ℕ) (o : Option ℕ) → Counts s (afterLeave party s (leaveUnless o d party list))
   unfolding countGrants grantedBy afterLeave listed over
   leave-counts party list (some k) = refl
@@ -87,11 +92,14 @@ module _ (s : State) where
       ap (countGrants (d .grants)) (sym (take-append-seam granted (drop (length granted) list)))
 
   call-counts : (H : Hierarchy) (c : Call) → Counts s (moveCall H c s)
-  unfolding moveCall enterStep getStep putStep leaveStep
+  unfolding moveCall enterStep getStep putStep addStep leaveStep
   call-counts H (enter party mode names nameCount) = enter-counts party (lockOn H mode (coverIn H (take nameCount names))) (enterRefusal H d party names nameCount)
-  call-counts H (get party node l) = get-counts party node (getD (lend (s .values) l) node 0) (refusal (valueChecks H d party node (lend (s .values) l) []))
+  call-counts H (get party node l) = get-counts party node (getD (lend (s .values) l) node 0) (refusal (valueChecks H d party node (lend (s .values) l) (getOwn d party)))
   call-counts H (put party node value l) =
       put-counts party node value (lend (s .values) l) (refusal (valueChecks H d party node (lend (s .values) l) (putOwn d party)))
+  call-counts H (add party node number l) =
+      let values : List ℕ = lend (s .values) l in
+      add-counts party node number (sum64 (getD values node 0) number) values (refusal (valueChecks H d party node values (addOwn d party)))
   call-counts H (leave party list) = leave-counts party list (leaveRefusal H d party list)
 
 -- and so does a list, from any hierarchy, desk and values, refused steps included

@@ -1,7 +1,9 @@
--- Demand 3: Serializable has the theorem, Rows the laws of the book, Facts which holders there are after a step and what an unrefused get or put knows,
+-- Demand 3: Serializable has the theorem, Rows the laws of the book, Facts which holders there are after a step and what an unrefused get, put or add knows,
+-- Modes what each visit may do and that adds come out the same in either order,
 -- Grants that the counts are of the order of granting.
 pub mod Rows
 pub mod Facts
+pub mod Modes
 pub mod Serializable
 pub mod Results
 pub mod Grants

@@ -24,17 +24,19 @@ use Rattle.desk.specs.declared.EnterAnswer.{EnterAnswer}
 use Rattle.desk.specs.declared.EnterAnswer.the-variants.{Granted, Waits, Refused as EnterRefused}
 use Rattle.desk.specs.declared.PutAnswer.{PutAnswer}
 use Rattle.desk.specs.declared.PutAnswer.the-variants.{Stored, Refused as PutRefused}
+use Rattle.desk.specs.declared.AddAnswer.{AddAnswer}
+use Rattle.desk.specs.declared.AddAnswer.the-variants.{Added, Refused as AddRefused}
 use Rattle.desk.specs.declared.LeaveAnswer.{LeaveAnswer}
 use Rattle.desk.specs.declared.LeaveAnswer.the-variants.{Left, Refused as LeaveRefused}
 use Rattle.desk.specs.Desks.{freshDesk}
 use Rattle.desk.specs.Steps.{Admission, granted, waits, PutResult}
-use Rattle.desk.specs.Steps.{enterUnless, enterStep, getUnless, getStep, putUnless, putStep, leaveUnless, leaveStep}
-use Rattle.desk.specs.Answers.{enterMeaning, getMeaning, putMeaning, leaveMeaning, getCase}
-use Rattle.runs.specs.Run.{Lending, whole, part, lend, restored, Call, enter, get, put, leave, Step, lentTo, Event, entered, got, stored, left, State, start}
-use Rattle.runs.specs.Run.{Moved, afterEnter, afterGet, afterPut, listed, afterLeave, moveCall, move, alsoRan, run}
-use Rattle.runs.proofs.Lends.{restored-lend, put-length}
+use Rattle.desk.specs.Steps.{enterUnless, enterStep, getUnless, getStep, putUnless, putStep, sum64, addStep, leaveUnless, leaveStep}
+use Rattle.desk.specs.Answers.{enterMeaning, getMeaning, putMeaning, addMeaning, leaveMeaning, getCase}
+use Rattle.runs.specs.Run.{Lending, whole, part, lend, restored, Call, enter, get, put, add, leave, Step, lentTo, Event, entered, got, stored, added, left, State, start}
+use Rattle.runs.specs.Run.{Moved, afterEnter, afterGet, afterPut, afterAdd, listed, afterLeave, moveCall, move, alsoRan, run}
+use Rattle.runs.proofs.Lends.{restored-lend, put-length, add-length}
 use Rattle.history.specs.Serial.{Built, Serial, SerialSteps}
-use Rattle.history.specs.Results.{LentOf, leftIn, Result, enter as entering, get as getting, put as putting, leave as leaving, Made, Meets}
+use Rattle.history.specs.Results.{LentOf, leftIn, Result, enter as entering, get as getting, put as putting, add as adding, leave as leaving, Made, Meets}
 use Rattle.history.specs.Results.{deskFrom, valuesFrom, toldBy, AllMeet, toldByAll, lastDesk, lastValues}
 use Rattle.history.proofs.Serializable.{built-two-each, serializable}
 
@@ -98,6 +100,11 @@ module _ (K : Hierarchy) (d : Desk) (party : ℕ) where
   unfolding putStep
   short-put node value values e = ap (λ (o : Option ℕ). putUnless o d node value values) (refused-here _ _ e)
 
+  pub short-add : (node number : ℕ) (values : List ℕ) → (tablesShort K || ltb (length values) (K .n)) ≡ true
+      → addStep K d party node number values ≡ record { desk = d; values = values; answer = refused 1 }
+  unfolding addStep
+  short-add node number values e = ap (λ (o : Option ℕ). putUnless o d node (sum64 (getD values node 0) number) values) (refused-here _ _ e)
+
   short-leave : (list : List ℕ) → tablesShort K ≡ true → leaveStep K d party list ≡ record { desk = d; list = list; answer = refused 1 }
   unfolding leaveStep
   short-leave list e = ap (λ (o : Option ℕ). leaveUnless o d party list) (refused-here _ _ (rw e refl))
@@ -144,7 +151,7 @@ module _ (K K′ : Hierarchy) (alike : Alike K K′) (d : Desk) (party : ℕ) wh
       by (inl e) = ap (λ (X : Hierarchy). leaveStep X d party list) (sym e)
       by (inr (a, b)) = short-leave K′ d party list b ∙ sym (short-leave K d party list a)
 
-  -- and neither tells get and put what the values are where they are too short
+  -- and neither tells get, put and add what the values are where they are too short
   module _ (values buffer : List ℕ) (lent-of : LentOf values buffer) (sized : length values ≡ K .n) (same-n : K′ .n ≡ K .n) where
     abbrev buffer′ : List ℕ
     buffer′ = lend values (lending values buffer)
@@ -170,39 +177,42 @@ module _ (K K′ : Hierarchy) (alike : Alike K K′) (d : Desk) (party : ℕ) wh
     get-alike : (node : ℕ) → getStep K′ d party node buffer′ ≡ getStep K d party node buffer
     get-alike node = get-by node (either-by alike lent-of)
 
-    -- a put hands back the same desk and answer, and leaves the same values
-    abbrev PutAlike : ℕ → ℕ → Type 0
-    PutAlike node value =
-        let s = putStep K d party node value buffer in
-        let s′ = putStep K′ d party node value buffer′ in
-        (s′ .desk ≡ s .desk) × (s′ .answer ≡ s .answer) × (restored values (s′ .values) ≡ leftIn values (s .values))
+    -- a put or add hands back the same desk and answer, and leaves the same values: of a step f over a hierarchy and what it is lent of the values, which
+    -- leaves all where it is lent too little, and leaves as many values as it was lent
+    module _ (f : Hierarchy → List ℕ → PutResult)
+        (short : (X : Hierarchy) (b : List ℕ) → (tablesShort X || ltb (length b) (X .n)) ≡ true → f X b ≡ record { desk = d; values = b; answer = refused 1 })
+        (long : (X : Hierarchy) (b : List ℕ) → length ((f X b) .values) ≡ length b) where
+      abbrev ChangesAlike : Type 0
+      ChangesAlike =
+          ((f K′ buffer′) .desk ≡ (f K buffer) .desk) × ((f K′ buffer′) .answer ≡ (f K buffer) .answer)
+          × (restored values ((f K′ buffer′) .values) ≡ leftIn values ((f K buffer) .values))
 
-    put-by : (node value : ℕ) → Either → PutAlike node value
-    put-by node value (inl (a, b)) =
-        let p = short-put K d party node value buffer a in
-        let p′ = short-put K′ d party node value buffer′ b in (
-          ap (λ (x : PutResult). x .desk) (p′ ∙ sym (ap (λ (y : PutResult). record { desk = y .desk; values = buffer′; answer = y .answer }) p)),
-          ap (λ (x : PutResult). x .answer) p′ ∙ sym (ap (λ (x : PutResult). x .answer) p),
-          ap (λ (x : PutResult). restored values (x .values)) p′ ∙ restored-lend values (lending values buffer) ∙ sym (left-same values buffer lent-of)
-              ∙ sym (ap (λ (x : PutResult). leftIn values (x .values)) p),
-        )
-    put-by node value (inr (e, f, h)) =
-        let same : putStep K′ d party node value buffer′ ≡ putStep K d party node value buffer
-        = ap (λ (X : Hierarchy). putStep X d party node value buffer′) (sym e) ∙ ap (putStep K d party node value) f in (
-          ap (λ (x : PutResult). x .desk) same,
-          ap (λ (x : PutResult). x .answer) same,
-          ap (λ (x : PutResult). restored values (x .values)) same
-              ∙ left-restored values ((putStep K d party node value buffer) .values) (omega (arith, h, put-length K d party node value buffer)),
-        )
+      changes-by : Either → ChangesAlike
+      changes-by (inl (a, b)) =
+          let p = short K buffer a in
+          let p′ = short K′ buffer′ b in (
+            ap (λ (x : PutResult). x .desk) (p′ ∙ sym (ap (λ (y : PutResult). record { desk = y .desk; values = buffer′; answer = y .answer }) p)),
+            ap (λ (x : PutResult). x .answer) p′ ∙ sym (ap (λ (x : PutResult). x .answer) p),
+            ap (λ (x : PutResult). restored values (x .values)) p′ ∙ restored-lend values (lending values buffer) ∙ sym (left-same values buffer lent-of)
+                ∙ sym (ap (λ (x : PutResult). leftIn values (x .values)) p),
+          )
+      changes-by (inr (e, g, h)) =
+          let same : f K′ buffer′ ≡ f K buffer = ap (λ (X : Hierarchy). f X buffer′) (sym e) ∙ ap (f K) g in (
+            ap (λ (x : PutResult). x .desk) same,
+            ap (λ (x : PutResult). x .answer) same,
+            ap (λ (x : PutResult). restored values (x .values)) same
+                ∙ left-restored values ((f K buffer) .values) (omega (arith, h, long K buffer)),
+          )
 
-    put-alike : (node value : ℕ) → PutAlike node value
-    put-alike node value = put-by node value (either-by alike lent-of)
+      changes-alike : ChangesAlike
+      changes-alike = changes-by (either-by alike lent-of)
 
 -- A CALL as a step of a list
 callFor : List ℕ → Result → Call
 callFor values (entering party mode names nameCount r) = enter party mode names nameCount
 callFor values (getting party node buffer r) = get party node (lending values buffer)
 callFor values (putting party node value buffer r after) = put party node value (lending values buffer)
+callFor values (adding party node number buffer r after) = add party node number (lending values buffer)
 callFor values (leaving party list r after) = leave party list
 
 stepFor : Hierarchy → List ℕ → Made → Step
@@ -233,7 +243,7 @@ left-alike party l e = rw (l, e) refl
 module _ (H K K′ : Hierarchy) (alike : Alike K K′) (d : Desk) (values : List ℕ) (sized : length values ≡ K .n) (same-n : K′ .n ≡ K .n) where
   call-moves : (r : Result) → Meets K d values r
       → moveCall K′ (callFor values r) (between H d values) ≡ record { state = between H (deskFrom r) (valuesFrom values r); event = toldBy r }
-  unfolding moveCall callFor afterEnter afterGet afterPut afterLeave
+  unfolding moveCall callFor afterEnter afterGet afterPut afterAdd afterLeave
   call-moves (entering party mode names nameCount r) (e, a) =
       ap (afterEnter party (between H d values)) (enter-alike K K′ alike d party mode names nameCount)
       ∙ moved-alike H (sym e) refl (sym (ap (entered party) a))
@@ -241,18 +251,27 @@ module _ (H K K′ : Hierarchy) (alike : Alike K K′) (d : Desk) (values : List
       ap (afterGet party node (between H d values)) (get-alike K K′ alike d party values buffer l sized same-n node)
       ∙ moved-alike H (sym e) refl (sym (ap (got party node) a))
   call-moves (putting party node value buffer r after) (l, (e, a, v)) =
-      let p = put-alike K K′ alike d party values buffer l sized same-n node value in
+      let p = changes-alike K K′ alike d party values buffer l sized same-n (λ X b. putStep X d party node value b)
+      (λ X b. short-put X d party node value b) (λ X b. put-length X d party node value b) in
       moved-alike H (p .0 ∙ sym e) (p .2 ∙ sym (ap (leftIn values) v)) (ap (stored party node value) (p .1 ∙ sym a))
+  call-moves (adding party node number buffer r after) (l, (e, a, v)) =
+      let p = changes-alike K K′ alike d party values buffer l sized same-n (λ X b. addStep X d party node number b)
+      (λ X b. short-add X d party node number b) (λ X b. add-length X d party node number b) in
+      moved-alike H (p .0 ∙ sym e) (p .2 ∙ sym (ap (leftIn values) v)) (ap (added party node number) (p .1 ∙ sym a))
   call-moves (leaving party list r after) (e, a, v) =
       ap (afterLeave party (between H d values)) (leave-alike K K′ alike d party list)
       ∙ moved-alike H (sym e) refl (left-alike party (sym v) (sym a))
 
 -- the values stay n
+left-sized : (values after : List ℕ) → length (leftIn values after) ≡ length values
+left-sized values after =
+    bool (ltb (length after) (length values)) (λ e. rw e refl) (λ e. rw e (length-take-le (length values) after (ltb-false (length after) (length values) e)))
+
 values-sized : (values : List ℕ) (r : Result) → length (valuesFrom values r) ≡ length values
 values-sized values (entering party mode names nameCount r) = refl
 values-sized values (getting party node buffer r) = refl
-values-sized values (putting party node value buffer r after) =
-    bool (ltb (length after) (length values)) (λ e. rw e refl) (λ e. rw e (length-take-le (length values) after (ltb-false (length after) (length values) e)))
+values-sized values (putting party node value buffer r after) = left-sized values after
+values-sized values (adding party node number buffer r after) = left-sized values after
 values-sized values (leaving party list r after) = refl
 
 -- the calls of a list are those steps, one after the other
@@ -308,6 +327,15 @@ unfolding putAnswer
 put-means (done _) = refl
 put-means (refused k) = refl
 
+addAnswer : Answer (Unit {0}) → AddAnswer
+addAnswer (done _) = Added
+addAnswer (refused k) = AddRefused k
+
+add-means : (a : Answer (Unit {0})) → addMeaning (addAnswer a) ≡ a
+unfolding addAnswer
+add-means (done _) = refl
+add-means (refused k) = refl
+
 leaveAnswer : Answer ℕ → LeaveAnswer
 leaveAnswer (done k) = Left k
 leaveAnswer (refused k) = LeaveRefused k
@@ -326,6 +354,9 @@ resultFor K d values (get party node l) =
 resultFor K d values (put party node value l) =
     let s = putStep K d party node value (lend values l) in
     putting party node value (lend values l) (record { desk = s .desk; answer = putAnswer (s .answer) }) (s .values)
+resultFor K d values (add party node number l) =
+    let s = addStep K d party node number (lend values l) in
+    adding party node number (lend values l) (record { desk = s .desk; answer = addAnswer (s .answer) }) (s .values)
 resultFor K d values (leave party list) =
     let s = leaveStep K d party list in leaving party list (record { desk = s .desk; answer = leaveAnswer (s .answer) }) (s .list)
 
@@ -335,28 +366,37 @@ unfolding resultFor
 result-meets K d values (enter party mode names nameCount) = (refl, enter-means _)
 result-meets K d values (get party node l) = (lend-lent values l, (refl, get-means _, refl))
 result-meets K d values (put party node value l) = (lend-lent values l, (refl, put-means _, refl))
+result-meets K d values (add party node number l) = (lend-lent values l, (refl, add-means _, refl))
 result-meets K d values (leave party list) = (refl, leave-means _, refl)
+
+-- what is left in a buffer that was lent of the values, by a step that leaves all where the buffer is too short, and as many values as it was lent
+left-lent : (K : Hierarchy) (d : Desk) (values : List ℕ) → length values ≡ K .n → (l : Lending) (r : PutResult)
+    → ((tablesShort K || ltb (length (lend values l)) (K .n)) ≡ true → r ≡ record { desk = d; values = lend values l; answer = refused 1 })
+    → length (r .values) ≡ length (lend values l) → restored values (r .values) ≡ leftIn values (r .values)
+left-lent K d values sized l r short long =
+    bool (ltb (length (lend values l)) (length values))
+    (λ e.
+    let h : length (lend values l) < length values = ltb-true (length (lend values l)) (length values) e in
+    let t : ltb (length (lend values l)) (K .n) ≡ true = lt-ltb (length (lend values l)) (K .n) (omega (arith, h, sized)) in
+    let p = short (or-second (tablesShort K) (ltb (length (lend values l)) (K .n)) t) in
+    ap (λ (x : PutResult). restored values (x .values)) p ∙ restored-lend values l ∙ sym (left-same values (lend values l) (inl h))
+    ∙ sym (ap (λ (x : PutResult). leftIn values (x .values)) p))
+    (λ e. left-restored values (r .values) (omega (arith, ltb-false (length (lend values l)) (length values) e, long)))
 
 -- and tells and leaves what the step does
 result-moves : (H K : Hierarchy) (d : Desk) (values : List ℕ) → length values ≡ K .n → (c : Call) → let r = resultFor K d values c in
     moveCall K c (between H d values) ≡ record { state = between H (deskFrom r) (valuesFrom values r); event = toldBy r }
-unfolding resultFor moveCall afterEnter afterGet afterPut afterLeave
+unfolding resultFor moveCall afterEnter afterGet afterPut afterAdd afterLeave
 result-moves H K d values sized (enter party mode names nameCount) = moved-alike H refl refl (ap (entered party) (sym (enter-means _)))
 result-moves H K d values sized (get party node l) = moved-alike H refl refl (ap (got party node) (sym (get-means _)))
 result-moves H K d values sized (put party node value l) =
-    moved-alike H refl (left (ltb (length (lend values l)) (length values)) refl) (ap (stored party node value) (sym (put-means _)))
-  where
-    left : (b : Bool) → ltb (length (lend values l)) (length values) ≡ b
-        → let s = putStep K d party node value (lend values l) in restored values (s .values) ≡ leftIn values (s .values)
-    left true e =
-        let h : length (lend values l) < length values = ltb-true (length (lend values l)) (length values) e in
-        let t : ltb (length (lend values l)) (K .n) ≡ true = lt-ltb (length (lend values l)) (K .n) (omega (arith, h, sized)) in
-        let p = short-put K d party node value (lend values l) (or-second (tablesShort K) (ltb (length (lend values l)) (K .n)) t) in
-        ap (λ (x : PutResult). restored values (x .values)) p ∙ restored-lend values l ∙ sym (left-same values (lend values l) (inl h))
-        ∙ sym (ap (λ (x : PutResult). leftIn values (x .values)) p)
-    left false e =
-        left-restored values ((putStep K d party node value (lend values l)) .values)
-        (omega (arith, ltb-false (length (lend values l)) (length values) e, put-length K d party node value (lend values l)))
+    moved-alike H refl
+    (left-lent K d values sized l (putStep K d party node value (lend values l)) (short-put K d party node value (lend values l)) (put-length K d party node value (lend values l)))
+    (ap (stored party node value) (sym (put-means _)))
+result-moves H K d values sized (add party node number l) =
+    moved-alike H refl
+    (left-lent K d values sized l (addStep K d party node number (lend values l)) (short-add K d party node number (lend values l)) (add-length K d party node number (lend values l)))
+    (ap (added party node number) (sym (add-means _)))
 result-moves H K d values sized (leave party list) = moved-alike H refl refl (left-alike party refl (sym (leave-means _)))
 
 madeFor : Hierarchy → Desk → List ℕ → Step → Made

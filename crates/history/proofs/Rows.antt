@@ -3,26 +3,66 @@ use mathlib.Core.Path.{_≡_, refl, sym, ap, _∙_}
 use mathlib.Core.Logic.{_⊎_, inl, inr, _≢_}
 use mathlib.Core.List.{List, [], _∷_, _++_, map, append-assoc, append-nil}
 use mathlib.Core.Bool.{Bool, true, false, _||_, or-true, or-false, true≢false}
-use Prim.Native.Nat.{ℕ, suc, _+_}
+use Prim.Native.Nat.{ℕ, zero, suc, _+_, _%_, _^_}
+use native.Mathlib.Nat.{add-right-comm, mod-add-mod}
 use native.Mathlib.Omega.{arith}
 use lib.Dec.{eqb}
-use lib.ListN.{length, length-append}
+use lib.ListN.{length, getD, set, length-append}
 use lib.Seq.{getD-set-other, set-comm}
 use borrow.Author.Tests.{eqb-true, eq-eqb}
 use Rattle.lists.specs.Answer.{done, refused}
-use Rattle.desk.specs.Steps.{granted, waits}
-use Rattle.runs.specs.Run.{Event, entered, got, stored, left}
-use Rattle.history.specs.History.{Op, didGet, didPut, Transaction, begun, visited, withOp, addToLatest, noted, historyFrom, history}
+use Rattle.locks.specs.declared.Mode.{Mode}
+use Rattle.locks.specs.declared.Mode.the-variants.{Reading, Writing, Adding}
+use Rattle.locks.specs.Locks.{compatible}
+use Rattle.desk.specs.Steps.{granted, waits, sum64}
+use Rattle.runs.specs.Run.{Event, entered, got, stored, added, left}
+use Rattle.history.specs.History.{Op, didGet, didPut, didAdd, Transaction, begun, visited, withOp, addToLatest, noted, historyFrom, history}
 use Rattle.history.specs.History.{grantedBy, grantedIn, bareEvent, opsIn, finds, leaves, opsFind, opsLeave, serialFinds, serialLeaves}
+
+-- MODES that go together do so either way round
+pub compatible-sym : (m k : Mode) → compatible m k ≡ compatible k m
+compatible-sym Reading Reading = refl
+compatible-sym Reading Writing = refl
+compatible-sym Reading Adding = refl
+compatible-sym Writing Reading = refl
+compatible-sym Writing Writing = refl
+compatible-sym Writing Adding = refl
+compatible-sym Adding Reading = refl
+compatible-sym Adding Writing = refl
+compatible-sym Adding Adding = refl
+
+-- SUMS modulo 2 to the 64 come out the same in either order
+pub sums-commute : (value x y : ℕ) → sum64 (sum64 value x) y ≡ sum64 (sum64 value y) x
+sums-commute value x y =
+    mod-add-mod (value + x) (2 ^ 64) y ∙ ap (λ (k : ℕ). k % 2 ^ 64) (add-right-comm value x y) ∙ sym (mod-add-mod (value + y) (2 ^ 64) x)
+
+-- a number added to the value of a node
+abbrev addAt : List ℕ → ℕ → ℕ → List ℕ
+addAt u r x = set u r (sum64 (getD u r 0) x)
+
+-- so two of them, at one node or at two
+pub adds-commute : (u : List ℕ) (r s x y : ℕ) → addAt (addAt u r x) s y ≡ addAt (addAt u s y) r x
+adds-commute [] r s x y = refl
+adds-commute (z ∷ u) zero zero x y = ap (_∷ u) (sums-commute z x y)
+adds-commute (z ∷ u) zero (suc s) x y = refl
+adds-commute (z ∷ u) (suc r) zero x y = refl
+adds-commute (z ∷ u) (suc r) (suc s) x y = ap (z ∷_) (adds-commute u r s x y)
+
+-- and an add and a put at two nodes
+put-add : (u : List ℕ) (r s x y : ℕ) → r ≢ s → addAt (set u r x) s y ≡ set (addAt u s y) r x
+put-add u r s x y h = rw (getD-set-other u r s x 0 (λ e. h (sym e))) (set-comm u r s x (sum64 (getD u s 0) y) h)
 
 module _ {A : Type 0} where
   unfoldable pub nodeOf : Op A → ℕ
   nodeOf (didGet r a) = r
   nodeOf (didPut r x) = r
+  nodeOf (didAdd r x) = r
 
-  unfoldable pub IsGet : Op A → Type 0
-  IsGet (didGet r a) = Unit {0}
-  IsGet (didPut r x) = ⊥
+  -- the mode of a visit that does nothing else
+  unfoldable pub modeOf : Op A → Mode
+  modeOf (didGet r a) = Reading
+  modeOf (didPut r x) = Writing
+  modeOf (didAdd r x) = Adding
 
   -- P of every op
   abbrev pub AllOps : (Op A → Type 0) → List (Op A) → Type 0
@@ -45,30 +85,41 @@ module _ {A : Type 0} where
   AllOps-snoc P [] o h k = (k, tt)
   AllOps-snoc P (x ∷ os) o h k = (h .0, AllOps-snoc P os o (h .1) k)
 
-  -- two ops commute: on two nodes, or both gets
+  -- two ops commute: on two nodes, or both gets, or both adds
   unfoldable pub Commute : Op A → Op A → Type 0
-  Commute o q = (nodeOf o ≢ nodeOf q) ⊎ (IsGet o × IsGet q)
+  Commute o q = (nodeOf o ≢ nodeOf q) ⊎ (compatible (modeOf o) (modeOf q) ≡ true)
 
   pub commute-leaves : (u : List ℕ) (o q : Op A) → Commute o q → leaves (leaves u o) q ≡ leaves (leaves u q) o
-  unfolding Commute leaves IsGet nodeOf
+  unfolding Commute leaves modeOf nodeOf
   commute-leaves u (didGet r a) (didGet s b) h = refl
   commute-leaves u (didGet r a) (didPut s y) h = refl
+  commute-leaves u (didGet r a) (didAdd s y) h = refl
   commute-leaves u (didPut r x) (didGet s b) h = refl
   commute-leaves u (didPut r x) (didPut s y) (inl h) = set-comm u r s x y h
-  commute-leaves u (didPut r x) (didPut s y) (inr h) = absurd (h .0)
+  commute-leaves u (didPut r x) (didPut s y) (inr h) = absurd (true≢false (sym h))
+  commute-leaves u (didPut r x) (didAdd s y) (inl h) = put-add u r s x y h
+  commute-leaves u (didPut r x) (didAdd s y) (inr h) = absurd (true≢false (sym h))
+  commute-leaves u (didAdd r x) (didGet s b) h = refl
+  commute-leaves u (didAdd r x) (didPut s y) (inl h) = sym (put-add u s r y x (λ e. h (sym e)))
+  commute-leaves u (didAdd r x) (didPut s y) (inr h) = absurd (true≢false (sym h))
+  commute-leaves u (didAdd r x) (didAdd s y) h = adds-commute u r s x y
 
   pub commute-finds : (u : List ℕ) (o q : Op A) → Commute o q → finds (leaves u o) q ≡ finds u q
-  unfolding Commute leaves finds IsGet nodeOf
-  commute-finds u (didGet r a) (didGet s b) h = refl
-  commute-finds u (didGet r a) (didPut s y) h = refl
+  unfolding Commute leaves finds modeOf nodeOf
+  commute-finds u (didGet r a) q h = refl
   commute-finds u (didPut r x) (didGet s b) (inl h) = ap (didGet s) (getD-set-other u r s x 0 (λ e. h (sym e)))
-  commute-finds u (didPut r x) (didGet s b) (inr h) = absurd (h .0)
+  commute-finds u (didPut r x) (didGet s b) (inr h) = absurd (true≢false (sym h))
   commute-finds u (didPut r x) (didPut s y) h = refl
+  commute-finds u (didPut r x) (didAdd s y) h = refl
+  commute-finds u (didAdd r x) (didGet s b) (inl h) = ap (didGet s) (getD-set-other u r s (sum64 (getD u r 0) x) 0 (λ e. h (sym e)))
+  commute-finds u (didAdd r x) (didGet s b) (inr h) = absurd (true≢false (sym h))
+  commute-finds u (didAdd r x) (didPut s y) h = refl
+  commute-finds u (didAdd r x) (didAdd s y) h = refl
 
   pub commute-sym : (o q : Op A) → Commute o q → Commute q o
   unfolding Commute
   commute-sym o q (inl h) = inl (λ e. h (sym e))
-  commute-sym o q (inr h) = inr (h .1, h .0)
+  commute-sym o q (inr h) = inr (compatible-sym (modeOf q) (modeOf o) ∙ h)
 
   -- past a list of ops
   pub ops-leave-past : (u : List ℕ) (o : Op A) (os : List (Op A)) → AllOps (Commute o) os → opsLeave (leaves u o) os ≡ leaves (opsLeave u os) o
@@ -311,6 +362,8 @@ module _ {A : Type 0} where
   parties-noted row (got p r (refused k)) = sym (append-nil (partiesOf row))
   parties-noted row (stored p r x (done _)) = parties-add p (didPut r x) row ∙ sym (append-nil (partiesOf row))
   parties-noted row (stored p r x (refused k)) = sym (append-nil (partiesOf row))
+  parties-noted row (added p r x (done _)) = parties-add p (didAdd r x) row ∙ sym (append-nil (partiesOf row))
+  parties-noted row (added p r x (refused k)) = sym (append-nil (partiesOf row))
   parties-noted row (left p (done qs)) = parties-new row qs
   parties-noted row (left p (refused k)) = sym (append-nil (partiesOf row))
 
@@ -327,6 +380,7 @@ granted-bare (entered p (done waits)) = refl
 granted-bare (entered p (refused k)) = refl
 granted-bare (got p r a) = refl
 granted-bare (stored p r x a) = refl
+granted-bare (added p r x a) = refl
 granted-bare (left p (done qs)) = refl
 granted-bare (left p (refused k)) = refl
 

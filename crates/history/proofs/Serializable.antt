@@ -11,52 +11,81 @@ use lib.ListN.{length, getD, set, take, drop, replicate, length-set, length-repl
 use lib.Seq.{take-append-seam}
 use borrow.Author.Tests.{eqb-true, eqb-false, eq-eqb, leb-true, le-leb, ltb-false, not-false}
 use Rattle.lists.specs.Lists.{keep, over}
-use Rattle.lists.specs.Answer.{Check}
+use Rattle.lists.specs.Answer.{Check, refusal}
 use Rattle.lists.proofs.Bools.{and-left, and-right}
-use Rattle.lists.proofs.Refusals.{refusal-none}
+use Rattle.lists.proofs.Refusals.{NoneHolds, refusal-none}
 use Rattle.interval_laws.proofs.Laws.{built-length, taken}
 use Rattle.locks.specs.declared.Mode.{Mode}
-use Rattle.locks.specs.declared.Mode.the-variants.{Reading, Writing}
+use Rattle.locks.specs.declared.Mode.the-variants.{Reading, Writing, Adding}
 use Rattle.locks.specs.declared.Lock.{Lock}
 use Rattle.locks.specs.declared.Stage.{Stage}
 use Rattle.locks.specs.declared.Stage.the-variants.{Out, Waiting, Holding}
-use Rattle.locks.specs.Locks.{bothReading, share, conflict}
-use Rattle.locks.specs.Stages.{isReading, readsOnly}
+use Rattle.locks.specs.Locks.{compatible, share, conflict}
+use Rattle.locks.specs.Stages.{isReading, isAdding, readsOnly, addsOnly}
 use Rattle.locks.specs.Lent.{Hierarchy, lowIn, highIn, coverIn, lockOn, insideLock}
 use Rattle.parties.specs.Parties.{entryOf}
 use Rattle.sweeps.specs.Sweeps.{Sweep, sweep}
-use Rattle.desk.specs.Steps.{putOwn, enterRefusal, leaveRefusal, free, grantTo, enterIf, enterUnless, enterStep}
-use Rattle.desk.specs.Steps.{getUnless, getStep, putUnless, putStep, leaveWith, leaveUnless, leaveStep}
-use Rattle.runs.specs.Run.{Lending, lend, Call, enter, get, put, leave, Step, lentTo, State, start}
-use Rattle.runs.specs.Run.{Moved, afterEnter, afterGet, afterPut, listed, afterLeave, moveCall, move, alsoRan, run}
+use Rattle.desk.specs.Steps.{getOwn, putOwn, addOwn, sum64, valueChecks, enterRefusal, leaveRefusal, free, grantTo, enterIf, enterUnless, enterStep}
+use Rattle.desk.specs.Steps.{getUnless, getStep, putUnless, putStep, addStep, leaveWith, leaveUnless, leaveStep}
+use Rattle.runs.specs.Run.{Lending, lend, Call, enter, get, put, add, leave, Step, lentTo, State, start}
+use Rattle.runs.specs.Run.{Moved, afterEnter, afterGet, afterPut, afterAdd, listed, afterLeave, moveCall, move, alsoRan, run}
 use Rattle.runs.specs.Over.{startOver, runOver}
 use Rattle.runs.proofs.Lends.{lend-at, restored-lend, restored-lend-set, low-lent, high-lent}
 use Rattle.runs.proofs.Runs.{run-over}
-use Rattle.history.specs.History.{Op, didGet, didPut, Transaction, begun, visited, addToLatest, noted, historyFrom, history}
+use Rattle.history.specs.History.{Op, didGet, didPut, didAdd, Transaction, begun, visited, addToLatest, noted, historyFrom, history}
 use Rattle.history.specs.History.{bare, bareEvent, opsIn, counted, countedFrom, finds, leaves, serialFinds, serialLeaves}
 use Rattle.history.specs.Serial.{Built, Serial, SerialOver}
 use Rattle.desk.specs.declared.Desk.{Desk}
 use Rattle.desk.specs.Desks.{stageAt, queueOf}
-use Rattle.history.proofs.Rows.{nodeOf, IsGet, Commute, Clear, Clear-map, Clear-new, Clear-granted, Clear-add}
+use Rattle.history.proofs.Rows.{compatible-sym, nodeOf, modeOf, Commute, Clear, Clear-map, Clear-new, Clear-granted, Clear-add}
 use Rattle.history.proofs.Rows.{Clear-visited, insert-leaves, insert-finds, append-leaves, append-finds, opsIn-add, opsIn-new, row-order}
+use Rattle.history.proofs.Modes.{is-adding, is-writing}
 use Rattle.history.proofs.Facts.{set-stage, holder-below, all-out, sweep-length, sweep-holds, holders-apart, right-ordered, Touch, touch, touch-own}
 
--- MODES AND LOCKS
-reading≢writing : Reading ≢ Writing
-reading≢writing e = let z : _≡_ {A = ℕ} 0 1 = cc in omega arith
+-- MODES AND LOCKS. What a visit may do: get in a reading one, get and put in a writing one, add in an adding one
+permits : Mode → Mode → Bool
+permits Reading Reading = true
+permits Reading Writing = false
+permits Reading Adding = false
+permits Writing Reading = true
+permits Writing Writing = true
+permits Writing Adding = false
+permits Adding Reading = false
+permits Adding Writing = false
+permits Adding Adding = true
 
-both-read : (a b : Mode) → bothReading a b ≡ true → (a ≡ Reading) × (b ≡ Reading)
-both-read Reading Reading e = (refl, refl)
-both-read Reading Writing e = absurd (true≢false (sym e))
-both-read Writing Reading e = absurd (true≢false (sym e))
-both-read Writing Writing e = absurd (true≢false (sym e))
+-- what goes with the visit goes with what it may do
+permitted : (m a b : Mode) → permits m a ≡ true → compatible m b ≡ true → compatible a b ≡ true
+unfolding permits
+permitted Reading Reading b p c = c
+permitted Reading Writing b p c = absurd (true≢false (sym p))
+permitted Reading Adding b p c = absurd (true≢false (sym p))
+permitted Writing a Reading p c = absurd (true≢false (sym c))
+permitted Writing a Writing p c = absurd (true≢false (sym c))
+permitted Writing a Adding p c = absurd (true≢false (sym c))
+permitted Adding Reading b p c = absurd (true≢false (sym p))
+permitted Adding Writing b p c = absurd (true≢false (sym p))
+permitted Adding Adding b p c = c
 
-is-writing : (m : Mode) → isReading m ≡ false → m ≡ Writing
-is-writing Reading e = absurd (true≢false e)
-is-writing Writing e = refl
+-- from what each step looks at: get
+may-get : (m : Mode) → isAdding m ≡ false → permits m Reading ≡ true
+unfolding permits
+may-get Reading a = refl
+may-get Writing a = refl
+may-get Adding a = absurd (true≢false a)
 
-no-conflict : (a b : Lock) → conflict a b ≡ false → share a b ≡ true → (a .mode ≡ Reading) × (b .mode ≡ Reading)
-no-conflict a b c s = both-read (a .mode) (b .mode) (not-false (bothReading (a .mode) (b .mode)) (rw s at c))
+-- put
+may-put : (m : Mode) → isReading m ≡ false → isAdding m ≡ false → permits m Writing ≡ true
+unfolding permits
+may-put m r a = rw (is-writing m r a) refl
+
+-- add
+may-add : (m : Mode) → isAdding m ≡ true → permits m Adding ≡ true
+unfolding permits
+may-add m a = rw (is-adding m a) refl
+
+no-conflict : (a b : Lock) → conflict a b ≡ false → share a b ≡ true → compatible (a .mode) (b .mode) ≡ true
+no-conflict a b c s = not-false (compatible (a .mode) (b .mode)) (rw s at c)
 
 -- two locks around one node share a number
 sharing : (H : Hierarchy) (node : ℕ) (a b : Lock) → lowIn H node ≤ highIn H node → insideLock H node a ≡ true → insideLock H node b ≡ true → share a b ≡ true
@@ -71,34 +100,32 @@ length-leaves : {A : Type 0} (u : List ℕ) (o : Op A) → length (leaves u o) �
 unfolding leaves
 length-leaves u (didGet r a) = refl
 length-leaves u (didPut r x) = length-set u r x
+length-leaves u (didAdd r x) = length-set u r (sum64 (getD u r 0) x)
 
--- the op is on a node whose interval is not inside the lock's, or both read
+-- the op is on a node whose interval is not inside the lock's, or goes together with the lock's mode
 Safe : {A : Type 0} → Hierarchy → Lock → Op A → Type 0
-Safe H l o = insideLock H (nodeOf o) l ≡ true → (l .mode ≡ Reading) × IsGet o
+Safe H l o = insideLock H (nodeOf o) l ≡ true → compatible (l .mode) (modeOf o) ≡ true
 
 -- an op of the holder's own, and one that is safe for its lock, commute
-own-commutes : {A : Type 0} (H : Hierarchy) (l : Lock) (o : Op A) → insideLock H (nodeOf o) l ≡ true → IsGet o ⊎ (l .mode ≡ Writing) → (k : Op A) → Safe H l k → Commute o k
+own-commutes : {A : Type 0} (H : Hierarchy) (l : Lock) (o : Op A) → insideLock H (nodeOf o) l ≡ true → permits (l .mode) (modeOf o) ≡ true → (k : Op A) → Safe H l k → Commute o k
 unfolding Commute Safe
-own-commutes H l o i own k s = step (eqb (nodeOf o) (nodeOf k)) refl own
+own-commutes H l o i own k s = step (eqb (nodeOf o) (nodeOf k)) refl
   where
-    step : (b : Bool) → eqb (nodeOf o) (nodeOf k) ≡ b → IsGet o ⊎ (l .mode ≡ Writing) → (nodeOf o ≢ nodeOf k) ⊎ (IsGet o × IsGet k)
-    step false e w = inl (eqb-false _ _ e)
-    step true e (inl g) = inr (g, (s (rw (eqb-true (nodeOf o) (nodeOf k) e) at i)) .1)
-    step true e (inr w) = absurd (reading≢writing (sym ((s (rw (eqb-true (nodeOf o) (nodeOf k) e) at i)) .0) ∙ w))
+    step : (b : Bool) → eqb (nodeOf o) (nodeOf k) ≡ b → (nodeOf o ≢ nodeOf k) ⊎ (compatible (modeOf o) (modeOf k) ≡ true)
+    step false e = inl (eqb-false _ _ e)
+    step true e = inr (permitted (l .mode) (modeOf o) (modeOf k) own (s (rw (eqb-true (nodeOf o) (nodeOf k) e) at i)))
 
 -- and it is safe for every other holder
-own-safe : {A : Type 0} (H : Hierarchy) (l g : Lock) (o : Op A) → lowIn H (nodeOf o) ≤ highIn H (nodeOf o) → insideLock H (nodeOf o) l ≡ true → IsGet o ⊎ (l .mode ≡ Writing)
+own-safe : {A : Type 0} (H : Hierarchy) (l g : Lock) (o : Op A) → lowIn H (nodeOf o) ≤ highIn H (nodeOf o) → insideLock H (nodeOf o) l ≡ true → permits (l .mode) (modeOf o) ≡ true
     → conflict g l ≡ false → Safe H g o
 unfolding Safe
-own-safe H l g o h i own c j = step own (no-conflict g l c (sharing H (nodeOf o) g l h j i))
-  where
-    step : IsGet o ⊎ (l .mode ≡ Writing) → (g .mode ≡ Reading) × (l .mode ≡ Reading) → (g .mode ≡ Reading) × IsGet o
-    step (inl k) b = (b .0, k)
-    step (inr w) b = absurd (reading≢writing (sym (b .1) ∙ w))
+own-safe H l g o h i own c j =
+    compatible-sym (g .mode) (modeOf o)
+    ∙ permitted (l .mode) (modeOf o) (g .mode) own (compatible-sym (l .mode) (g .mode) ∙ no-conflict g l c (sharing H (nodeOf o) g l h j i))
 
 -- from the values u
 module _ (u : List ℕ) where
-  -- THE INVARIANT between two steps. row: the book's; answered: the same with each get's answer noted; m: the gets and puts not refused
+  -- THE INVARIANT between two steps. row: the book's; answered: the same with each get's answer noted; m: the gets, puts and adds not refused
   record Kept (s : State) (row : List (Transaction (Unit {0}))) (answered : List (Transaction ℕ)) (m : ℕ) : Type 0 where
     -- the hierarchy has two numbers for each node
     two-each : length (s .hierarchy .intervals) ≡ 2 * s .hierarchy .n
@@ -117,9 +144,9 @@ module _ (u : List ℕ) where
     abbrev H : Hierarchy
     H = s .hierarchy
 
-    -- A GET OR PUT: p, which holds l, does o
+    -- A GET, PUT OR ADD: p, which holds l, does o
     touched : (p : ℕ) (l : Lock) (o : Op (Unit {0})) → stageAt (s .desk) p ≡ Holding l → lowIn H (nodeOf o) ≤ highIn H (nodeOf o) → insideLock H (nodeOf o) l ≡ true
-        → IsGet o ⊎ (l .mode ≡ Writing) → ((q : ℕ) (g : Lock) → p ≢ q → stageAt (s .desk) q ≡ Holding g → conflict g l ≡ false)
+        → permits (l .mode) (modeOf o) ≡ true → ((q : ℕ) (g : Lock) → p ≢ q → stageAt (s .desk) q ≡ Holding g → conflict g l ≡ false)
         → Kept (record { hierarchy = H; desk = s .desk; values = leaves (s .values) o }) (addToLatest p o row) (addToLatest p (finds (s .values) o) notes) (suc m)
     touched p l o e h i own apart = record {
       two-each = k .two-each;
@@ -212,9 +239,9 @@ module _ (u : List ℕ) where
         held q l (inl v) = inl v
         held q l (inr e) = inr (was q l (set-stage (s .desk .entries) p q Out l e))
 
-    -- GET and PUT share this
+    -- GET, PUT and ADD share this
     touch-kept : (x : Step) (l : Lending) (p : ℕ) (o : Op (Unit {0})) → (t : Touch (lentTo x H) (s .desk) p (nodeOf o) (lend (s .values) l))
-        → IsGet o ⊎ (t .at-node .hold .mode ≡ Writing)
+        → permits (t .at-node .hold .mode) (modeOf o) ≡ true
         → Kept (record { hierarchy = H; desk = s .desk; values = leaves (s .values) o }) (addToLatest p o row) (addToLatest p (finds (s .values) o) notes) (suc m)
     unfolding lentTo
     touch-kept x l p o t own =
@@ -231,33 +258,61 @@ module _ (u : List ℕ) where
     unfolding lentTo
     enough x l p node t = let e = ltb-false (length (lend (s .values) l)) (H .n) (t .step .own-lent) in omega (arith, k .sized)
 
-    get-kept : (x : Step) (l : Lending) (p node : ℕ) (o : Option ℕ) → (o ≡ none → Touch (lentTo x H) (s .desk) p node (lend (s .values) l))
+    get-kept : (x : Step) (l : Lending) (p node : ℕ) (o : Option ℕ)
+        → (o ≡ none → Touch (lentTo x H) (s .desk) p node (lend (s .values) l) × (addsOnly (stageAt (s .desk) p) ≡ false))
         → Onward row notes m (afterGet p node s (getUnless o (s .desk) (getD (lend (s .values) l) node 0)))
-    unfolding Onward afterGet noted counted bareEvent bare leaves finds nodeOf IsGet lentTo
+    unfolding Onward afterGet noted counted bareEvent bare leaves finds nodeOf modeOf lentTo
     get-kept x l p node (some n) t = k
     get-kept x l p node none t =
-        rw (lend-at (s .values) l node (omega (arith, t refl .at-node .below, k .sized)) (enough x l p node (t refl)))
-        (touch-kept x l p (didGet node tt) (t refl) (inl tt))
+        let (f, gets) = t refl in
+        rw (lend-at (s .values) l node (omega (arith, f .at-node .below, k .sized)) (enough x l p node f))
+        (touch-kept x l p (didGet node tt) f (may-get (f .at-node .hold .mode) (rw (f .at-node .holds) at gets)))
 
     put-kept : (x : Step) (l : Lending) (p node value : ℕ) (o : Option ℕ)
-        → (o ≡ none → Touch (lentTo x H) (s .desk) p node (lend (s .values) l) × (readsOnly (stageAt (s .desk) p) ≡ false))
+        → (o ≡ none → Touch (lentTo x H) (s .desk) p node (lend (s .values) l) × (readsOnly (stageAt (s .desk) p) ≡ false) × (addsOnly (stageAt (s .desk) p) ≡ false))
         → Onward row notes m (afterPut p node value s (putUnless o (s .desk) node value (lend (s .values) l)))
-    unfolding Onward afterPut noted counted bareEvent bare leaves finds nodeOf IsGet lentTo
+    unfolding Onward afterPut noted counted bareEvent bare leaves finds nodeOf modeOf lentTo
     put-kept x l p node value (some n) t = rw (restored-lend (s .values) l) k
     put-kept x l p node value none t =
-        let (f, writes) = t refl in
+        let (f, reads, adds) = t refl in
         rw (restored-lend-set (s .values) l node value (omega (arith, f .at-node .below, k .sized, enough x l p node f)))
-        (touch-kept x l p (didPut node value) f (inr (is-writing (f .at-node .hold .mode) (rw (f .at-node .holds) at writes))))
+        (touch-kept x l p (didPut node value) f (may-put (f .at-node .hold .mode) (rw (f .at-node .holds) at reads) (rw (f .at-node .holds) at adds)))
+
+    add-kept : (x : Step) (l : Lending) (p node number : ℕ) (o : Option ℕ)
+        → (o ≡ none → Touch (lentTo x H) (s .desk) p node (lend (s .values) l) × (not (addsOnly (stageAt (s .desk) p)) ≡ false))
+        → Onward row notes m (afterAdd p node number s (putUnless o (s .desk) node (sum64 (getD (lend (s .values) l) node 0) number) (lend (s .values) l)))
+    unfolding Onward afterAdd noted counted bareEvent bare leaves finds nodeOf modeOf lentTo
+    add-kept x l p node number (some n) t = rw (restored-lend (s .values) l) k
+    add-kept x l p node number none t =
+        let (f, adds) = t refl in
+        rw (
+          lend-at (s .values) l node (omega (arith, f .at-node .below, k .sized)) (enough x l p node f),
+          restored-lend-set (s .values) l node (sum64 (getD (s .values) node 0) number) (omega (arith, f .at-node .below, k .sized, enough x l p node f)),
+        )
+        (touch-kept x l p (didAdd node number) f
+        (may-add (f .at-node .hold .mode) (rw (f .at-node .holds) at (not-false (addsOnly (stageAt (s .desk) p)) adds))))
+
+    -- what each of the three knows where none of its checks refuses it
+    module _ (x : Step) (l : Lending) (p node : ℕ) (own : List Check) (e : refusal (valueChecks (lentTo x H) (s .desk) p node (lend (s .values) l) own) ≡ none) where
+      known : Touch (lentTo x H) (s .desk) p node (lend (s .values) l)
+      known = touch (lentTo x H) (s .desk) p node (lend (s .values) l) own e
+
+      own-known : NoneHolds own
+      own-known = refusal-none own (touch-own (lentTo x H) (s .desk) p node (lend (s .values) l) own e)
 
     call-kept : (x : Step) (c : Call) → Onward row notes m (moveCall (lentTo x H) c s)
-    unfolding moveCall enterStep getStep putStep leaveStep
+    unfolding moveCall enterStep getStep putStep addStep leaveStep
     call-kept x (enter p mode names nameCount) =
         enter-kept p (lockOn (lentTo x H) mode (coverIn (lentTo x H) (take nameCount names))) (enterRefusal (lentTo x H) (s .desk) p names nameCount)
-    call-kept x (get p node l) = get-kept x l p node _ (touch (lentTo x H) (s .desk) p node (lend (s .values) l) [])
+    call-kept x (get p node l) =
+        let own : List Check = getOwn (s .desk) p in
+        get-kept x l p node _ (λ e. (known x l p node own e, own-known x l p node own e .0))
     call-kept x (put p node value l) =
         let own : List Check = putOwn (s .desk) p in
-        put-kept x l p node value _
-        (λ e. (touch (lentTo x H) (s .desk) p node (lend (s .values) l) own e, refusal-none own (touch-own (lentTo x H) (s .desk) p node (lend (s .values) l) own e) .0))
+        put-kept x l p node value _ (λ e. let f = own-known x l p node own e in (known x l p node own e, f .0, f .1 .0))
+    call-kept x (add p node number l) =
+        let own : List Check = addOwn (s .desk) p in
+        add-kept x l p node number _ (λ e. (known x l p node own e, own-known x l p node own e .0))
     call-kept x (leave p list) = leave-kept p list (leaveRefusal (lentTo x H) (s .desk) p list)
 
   run-kept : (xs : List Step) (s : State) (row : List (Transaction (Unit {0}))) (notes : List (Transaction ℕ)) (m : ℕ) → Kept s row notes m

@@ -5,16 +5,17 @@ use Prim.Native.Nat.{ℕ, suc, _+_}
 use lib.Dec.{eqb}
 use lib.ListN.{length, getD, set}
 use Rattle.lists.specs.Answer.{Answer, done, refused}
-use Rattle.desk.specs.Steps.{granted, waits}
-use Rattle.runs.specs.Run.{Event, entered, got, stored, left}
+use Rattle.desk.specs.Steps.{granted, waits, sum64}
+use Rattle.runs.specs.Run.{Event, entered, got, stored, added, left}
 
--- a get or put that was done. At a get stands a note of type A, which nothing below looks at: with A = Unit nothing is noted,
+-- a get, put or add that was done. At a get stands a note of type A, which nothing below looks at: with A = Unit nothing is noted,
 -- and that is the paper's book; with A = ℕ each get carries the value that it was answered
 pub data Op (A : Type 0) : Type 0 where
   didGet : (node : ℕ) → (note : A) → Op A
   didPut : (node value : ℕ) → Op A
+  didAdd : (node number : ℕ) → Op A
 
--- a visit in the row: its party, and the gets and puts it did
+-- a visit in the row: its party, and the gets, puts and adds it did
 pub record Transaction (A : Type 0) : Type 0 where
   pub party : ℕ
   pub ops : List (Op A)
@@ -29,7 +30,7 @@ module _ {A : Type 0} where
   visited party [] = false
   visited party (v ∷ vs) = eqb (v .party) party || visited party vs
 
-  -- the visit with the get or put last, or as it was
+  -- the visit with the get, put or add last, or as it was
   unfoldable pub withOp : Bool → Op A → Transaction A → Transaction A
   withOp true op v = record { party = v .party; ops = v .ops ++ (op ∷ []) }
   withOp false op v = v
@@ -40,7 +41,7 @@ module _ {A : Type 0} where
   addToLatest party op (v ∷ vs) =
       elim (visited party vs) [ true ↦ v ∷ addToLatest party op vs | false ↦ withOp (eqb (v .party) party) op v ∷ vs ]
 
-  -- enter answered granted: a visit goes last in the row; waits: no change. get or put, not refused: goes last in the party's latest visit.
+  -- enter answered granted: a visit goes last in the row; waits: no change. get, put or add, not refused: goes last in the party's latest visit.
   -- leave, not refused: for each granted party, in that order, a new visit goes last. Any refused step: no change
   unfoldable pub noted : List (Transaction A) → Event A → List (Transaction A)
   noted row (entered party (done (granted cover))) = row ++ (begun party ∷ [])
@@ -50,6 +51,8 @@ module _ {A : Type 0} where
   noted row (got party node (refused k)) = row
   noted row (stored party node value (done _)) = addToLatest party (didPut node value) row
   noted row (stored party node value (refused k)) = row
+  noted row (added party node number (done _)) = addToLatest party (didAdd node number) row
+  noted row (added party node number (refused k)) = row
   noted row (left party (done parties)) = row ++ map begun parties
   noted row (left party (refused k)) = row
 
@@ -71,6 +74,7 @@ module _ {A : Type 0} where
   grantedBy (entered party (refused k)) = []
   grantedBy (got party node a) = []
   grantedBy (stored party node value a) = []
+  grantedBy (added party node number a) = []
   grantedBy (left party (done parties)) = parties
   grantedBy (left party (refused k)) = []
 
@@ -89,22 +93,25 @@ unfoldable pub bareEvent : {A : Type 0} → Event A → Event (Unit {0})
 bareEvent (entered party a) = entered party a
 bareEvent (got party node a) = got party node (bare a)
 bareEvent (stored party node value a) = stored party node value a
+bareEvent (added party node number a) = added party node number a
 bareEvent (left party a) = left party a
 
 -- COUNTING
 module _ {A : Type 0} where
-  -- the gets and puts in a row
+  -- the gets, puts and adds in a row
   unfoldable pub opsIn : List (Transaction A) → ℕ
   opsIn [] = 0
   opsIn (v ∷ vs) = length (v .ops) + opsIn vs
 
-  -- one more where the event is a get or put that was not refused
+  -- one more where the event is a get, put or add that was not refused
   unfoldable pub counted : ℕ → Event A → ℕ
   counted m (entered party a) = m
   counted m (got party node (done a)) = suc m
   counted m (got party node (refused k)) = m
   counted m (stored party node value (done _)) = suc m
   counted m (stored party node value (refused k)) = m
+  counted m (added party node number (done _)) = suc m
+  counted m (added party node number (refused k)) = m
   counted m (left party a) = m
 
   -- those of a list of events
@@ -112,19 +119,21 @@ module _ {A : Type 0} where
   countedFrom m [] = m
   countedFrom m (e ∷ es) = countedFrom (counted m e) es
 
--- PERFORMING (serial execution) from the given values: through the row from the front, each visit's gets and puts in their order
+-- PERFORMING (serial execution) from the given values: through the row from the front, each visit's gets, puts and adds in their order
 module _ {A : Type 0} where
   -- a get finds the value then standing at its node
   unfoldable pub finds : List ℕ → Op A → Op ℕ
   finds values (didGet node note) = didGet node (getD values node 0)
   finds values (didPut node value) = didPut node value
+  finds values (didAdd node number) = didAdd node number
 
-  -- a put replaces it
+  -- a put replaces it, an add adds to it
   unfoldable pub leaves : List ℕ → Op A → List ℕ
   leaves values (didGet node note) = values
   leaves values (didPut node value) = set values node value
+  leaves values (didAdd node number) = set values node (sum64 (getD values node 0) number)
 
-  -- what the gets and puts of one visit find, in their order
+  -- what the gets, puts and adds of one visit find, in their order
   unfoldable pub opsFind : List ℕ → List (Op A) → List (Op ℕ)
   opsFind values [] = []
   opsFind values (op ∷ ops) = finds values op ∷ opsFind (leaves values op) ops

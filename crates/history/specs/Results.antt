@@ -13,16 +13,17 @@ use Rattle.desk.specs.declared.Desk.{Desk}
 use Rattle.desk.specs.declared.EnterStep.{EnterStep}
 use Rattle.desk.specs.declared.GetStep.{GetStep}
 use Rattle.desk.specs.declared.PutStep.{PutStep}
+use Rattle.desk.specs.declared.AddStep.{AddStep}
 use Rattle.desk.specs.declared.LeaveStep.{LeaveStep}
-use Rattle.desk.specs.Steps.{enterStep, getStep, putStep, leaveStep}
-use Rattle.desk.specs.Answers.{enterMeaning, getMeaning, putMeaning, leaveMeaning, Enters, Gets, Puts, Leaves}
-use Rattle.runs.specs.Run.{Event, entered, got, stored, left, listed}
+use Rattle.desk.specs.Steps.{enterStep, getStep, putStep, addStep, leaveStep}
+use Rattle.desk.specs.Answers.{enterMeaning, getMeaning, putMeaning, addMeaning, leaveMeaning, Enters, Gets, Puts, Adds, Leaves}
+use Rattle.runs.specs.Run.{Event, entered, got, stored, added, left, listed}
 
 -- a buffer is lent of a table: the table, with anything behind it; or it is too short, whatever it holds
 abbrev pub LentOf : List ℕ → List ℕ → Type 0
 LentOf table buffer = (length buffer < length table) ⊎ (take (length table) buffer ≡ table)
 
--- the table after the buffer is left: the buffer's front. What is too short for the table is left as it was lent (`short-put`), and so is the table
+-- the table after the buffer is left: the buffer's front. What is too short for the table is left as it was lent (`short-put`, `short-add`), and so is the table
 abbrev pub leftIn : List ℕ → List ℕ → List ℕ
 leftIn table buffer = cond (ltb (length buffer) (length table)) table (take (length table) buffer)
 
@@ -31,6 +32,7 @@ pub data Result : Type 0 where
   enter : (party : ℕ) (mode : Mode) (names : List ℕ) (nameCount : ℕ) (r : EnterStep) → Result
   get : (party node : ℕ) (values : List ℕ) (r : GetStep) → Result
   put : (party node value : ℕ) (values : List ℕ) (r : PutStep) (after : List ℕ) → Result
+  add : (party node number : ℕ) (values : List ℕ) (r : AddStep) (after : List ℕ) → Result
   leave : (party : ℕ) (list : List ℕ) (r : LeaveStep) (after : List ℕ) → Result
 
 -- a call that was made: the two tables as it was lent them, and the rest
@@ -39,11 +41,12 @@ pub record Made : Type 0 where
   pub edges : List ℕ
   pub result : Result
 
--- THE CONTRACT of its method is met by the result, on a hierarchy as lent, a desk, and values of which get and put are lent
+-- THE CONTRACT of its method is met by the result, on a hierarchy as lent, a desk, and values of which get, put and add are lent
 abbrev pub Meets : Hierarchy → Desk → List ℕ → Result → Type 0
 Meets K d values (enter party mode names nameCount r) = Enters r (enterStep K d party mode names nameCount)
 Meets K d values (get party node buffer r) = LentOf values buffer × Gets r (getStep K d party node buffer)
 Meets K d values (put party node value buffer r after) = LentOf values buffer × Puts r after (putStep K d party node value buffer)
+Meets K d values (add party node number buffer r after) = LentOf values buffer × Adds r after (addStep K d party node number buffer)
 Meets K d values (leave party list r after) = Leaves r after (leaveStep K d party list)
 
 -- the desk that the call handed back
@@ -51,6 +54,7 @@ abbrev pub deskFrom : Result → Desk
 deskFrom (enter party mode names nameCount r) = r .desk
 deskFrom (get party node buffer r) = r .desk
 deskFrom (put party node value buffer r after) = r .desk
+deskFrom (add party node number buffer r after) = r .desk
 deskFrom (leave party list r after) = r .desk
 
 -- the values as the call left them
@@ -58,6 +62,7 @@ abbrev pub valuesFrom : List ℕ → Result → List ℕ
 valuesFrom values (enter party mode names nameCount r) = values
 valuesFrom values (get party node buffer r) = values
 valuesFrom values (put party node value buffer r after) = leftIn values after
+valuesFrom values (add party node number buffer r after) = leftIn values after
 valuesFrom values (leave party list r after) = values
 
 -- what the book is told of it: the answer that the struct has, and for leave the list that stands in the buffer
@@ -65,6 +70,7 @@ abbrev pub toldBy : Result → Event ℕ
 toldBy (enter party mode names nameCount r) = entered party (enterMeaning (r .answer))
 toldBy (get party node buffer r) = got party node (getMeaning (r .answer))
 toldBy (put party node value buffer r after) = stored party node value (putMeaning (r .answer))
+toldBy (add party node number buffer r after) = added party node number (addMeaning (r .answer))
 toldBy (leave party list r after) = left party (listed after (leaveMeaning (r .answer)))
 
 -- each call of a list was lent of the hierarchy, and meets its contract on the desk that the one before handed back and the values as last left

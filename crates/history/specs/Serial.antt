@@ -30,7 +30,7 @@ pub record SerialSteps (values : List ℕ) (events : List (Event ℕ)) (after : 
   -- the value answered by each get not refused is what that same get finds: the row with each answer noted at its get
   -- is the row with what performing finds noted there
   pub answers : history events ≡ serialFinds values (rowOf events)
-  -- no get or put that was not refused is missing from the row
+  -- no get, put or add that was not refused is missing from the row
   pub whole : opsIn (rowOf events) ≡ countedFrom 0 events
   -- the row's order is the order of granting: a visit for each party granted, one after the other, and no other
   pub order : map (λ v. v .party) (rowOf events) ≡ grantedIn events

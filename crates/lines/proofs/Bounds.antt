@@ -13,7 +13,7 @@ use borrow.Author.Tests.{leb-true, ltb-true, ltb-false}
 use Rattle.lists.proofs.Loops.{keep-few}
 use Rattle.lists.proofs.Marks.{set-get, zero-at}
 use Rattle.lists.specs.Lists.{allBelow, every, keptIf, keep, over, Below}
-use Rattle.lists.specs.Answer.{Check, refusal}
+use Rattle.lists.specs.Answer.{Answer, done, refused as denied, Check, refusal}
 use Rattle.intervals.specs.Cover.{callInterval}
 use Rattle.lists.proofs.Bools.{bool, and-left, and-right}
 use Rattle.lists.proofs.Bounded.{all-at}
@@ -32,14 +32,15 @@ use Rattle.parties.specs.Parties.{entryOf, stageIn, meetsHolder, meetsWaiter}
 use Rattle.desk.specs.Desks.{listedAt, queueOf, freshDesk}
 use Rattle.parties.specs.Sound.{listsParties}
 use Rattle.sweeps.specs.Sweeps.{Sweep, staysWaiting, isGranted, offerIf, offerTo, offer, sweep}
-use Rattle.desk.specs.Steps.{putOwn, StepFacts, stepChecks, valueChecks, free, enterRefusal, enterIf, enterUnless, enterStep}
-use Rattle.desk.specs.Steps.{getUnless, getStep, putUnless, putStep, afterLeaving, leaveRefusal, leaveUnless, leaveStep}
+use Rattle.desk.specs.Steps.{getOwn, putOwn, addOwn, PutResult, StepFacts, stepChecks, valueChecks, free, enterRefusal, enterIf, enterUnless, enterStep}
+use Rattle.desk.specs.Steps.{getUnless, getStep, putUnless, putStep, sum64, addStep, afterLeaving, leaveRefusal, leaveUnless, leaveStep}
 use Rattle.desk.proofs.Facts.{step-facts}
 use Rattle.grants.proofs.Counts.{grant-below, grants-below, grants-length}
 use Rattle.parties.proofs.Clauses.{clauses, sound-few}
-use Rattle.replay.specs.Replay.{StepAnswer, granted, refused, enterLine, getLine, putLine, leaveLine, answerIn, enterCall, getCall, putCall, leaveCall, stepOf, performStep}
-use Rattle.runs.specs.Run.{lend, Call, lentTo, State, listed, afterEnter, afterGet, afterPut, afterLeave, moveCall, move}
-use Rattle.runs.proofs.Lends.{restored-full, put-length}
+use Rattle.replay.specs.Replay.{StepAnswer, granted, refused, enterLine, getLine, putLine, addLine, leaveLine, answerIn}
+use Rattle.replay.specs.Replay.{enterCall, getCall, putCall, addCall, leaveCall, stepOf, performStep}
+use Rattle.runs.specs.Run.{lend, Call, lentTo, State, listed, afterEnter, afterGet, afterPut, afterAdd, afterLeave, moveCall, move}
+use Rattle.runs.proofs.Lends.{restored-full, put-length, add-length}
 use Rattle.texts.specs.Text.{decimal, space, spaced, answerText}
 use Rattle.texts.proofs.Puts.{decimal-most}
 
@@ -166,23 +167,31 @@ module _ (H : Hierarchy) (d : Desk) (party node : ℕ) (values : List ℕ) (b : 
   pub get-bounded : Bounded ((getStep H d party node values) .desk) × Short (getLine ((getStep H d party node values) .answer))
   unfolding getStep every
   get-bounded =
-      get-by (refusal (valueChecks H d party node values [])) (refusal-low (valueChecks H d party node values []) refl)
+      get-by (refusal (valueChecks H d party node values (getOwn d party))) (refusal-low (valueChecks H d party node values (getOwn d party)) refl)
 
--- PUT
-module _ (H : Hierarchy) (d : Desk) (party node number : ℕ) (values : List ℕ) (b : Bounded d) (v : Below 18446744073709551616 values) (wide : number < 18446744073709551616) where
-  abbrev PutBounded : Option ℕ → Type 0
-  PutBounded o =
-      Bounded ((putUnless o d node number values) .desk) × Below 18446744073709551616 ((putUnless o d node number values) .values) × Short (putLine ((putUnless o d node number values) .answer))
+-- PUT AND ADD, with the line of the one or the other
+module _ (d : Desk) (node value : ℕ) (values : List ℕ) (line : Answer (Unit {0}) → StepAnswer) where
+  abbrev WriteBounded : PutResult → Type 0
+  WriteBounded x = Bounded (x .desk) × Below 18446744073709551616 (x .values) × Short (line (x .answer))
 
-  put-by : (o : Option ℕ) → AtMost o → PutBounded o
-  put-by (some k) low = (b, v, refused-short k low)
-  put-by none low = (b, (λ i. set-get (λ (k : ℕ). k < 18446744073709551616) values node number i 0 wide (v i)), omega arith)
+  write-by : Bounded d → Below 18446744073709551616 values → value < 18446744073709551616 → Short (line (done tt)) → ((k : ℕ) → k ≤ 99 → Short (line (denied k)))
+      → (o : Option ℕ) → AtMost o → WriteBounded (putUnless o d node value values)
+  write-by b v wide short few (some k) low = (b, v, few k low)
+  write-by b v wide short few none low = (b, (λ i. set-get (λ (k : ℕ). k < 18446744073709551616) values node value i 0 wide (v i)), short)
 
-  pub put-bounded : Bounded ((putStep H d party node number values) .desk) × Below 18446744073709551616 ((putStep H d party node number values) .values) × Short (putLine
-      ((putStep H d party node number values) .answer))
+module _ (H : Hierarchy) (d : Desk) (party node number : ℕ) (values : List ℕ) (b : Bounded d) (v : Below 18446744073709551616 values) where
+  pub put-bounded : number < 18446744073709551616 → WriteBounded d node number values putLine (putStep H d party node number values)
   unfolding putStep every
-  put-bounded =
-      let own : List Check = putOwn d party in put-by (refusal (valueChecks H d party node values own)) (refusal-low (valueChecks H d party node values own) refl)
+  put-bounded wide =
+      write-by d node number values putLine b v wide (omega arith) refused-short (refusal (valueChecks H d party node values (putOwn d party)))
+      (refusal-low (valueChecks H d party node values (putOwn d party)) refl)
+
+  pub add-bounded : WriteBounded d node (sum64 (getD values node 0) number) values addLine (addStep H d party node number values)
+  unfolding addStep every
+  add-bounded =
+      let sum : ℕ = sum64 (getD values node 0) number in
+      write-by d node sum values addLine b v (omega arith) (omega arith) refused-short (refusal (valueChecks H d party node values (addOwn d party)))
+      (refusal-low (valueChecks H d party node values (addOwn d party)) refl)
 
 -- LEAVE. Of k waiters that a pass took each stays or is granted
 record Swept (k : ℕ) (s : Sweep) : Type 0 where
@@ -271,21 +280,25 @@ module _ (s : State) (r : List ℕ) (bytes : Below 256 r) (f : Fine s) where
   abbrev H : Hierarchy
   H = lentTo (stepOf r) (s .hierarchy)
 
-  abbrev asks : Bool → Bool → Bool → Call
-  asks a b c = cond a (enterCall r) (cond b (getCall r) (cond c (putCall r) (leaveCall r)))
+  abbrev asks : Bool → Bool → Bool → Bool → Call
+  asks a b c d = cond a (enterCall r) (cond b (getCall r) (cond c (putCall r) (cond d (leaveCall r) (addCall r))))
 
-  asks-fine : (a b c : Bool) → Fine ((moveCall H (asks a b c) s) .state) × Short (answerIn ((moveCall H (asks a b c) s) .event))
-  unfolding moveCall lend afterEnter afterGet afterPut afterLeave
-  asks-fine true b c = let x = enter-bounded H (s .desk) (partyIn r) (modeNumbered (modeIn r)) (namesIn r) (nameCountIn r) (f .desk) in (record { desk = x .0; values = f .values }, x .1)
-  asks-fine false true c = let x = get-bounded H (s .desk) (partyIn r) (nodeIn r) (s .values) (f .desk) (f .values) in (record { desk = x .0; values = f .values }, x .1)
-  asks-fine false false true =
+  asks-fine : (a b c d : Bool) → Fine ((moveCall H (asks a b c d) s) .state) × Short (answerIn ((moveCall H (asks a b c d) s) .event))
+  unfolding moveCall lend afterEnter afterGet afterPut afterAdd afterLeave
+  asks-fine true b c d =
+      let x = enter-bounded H (s .desk) (partyIn r) (modeNumbered (modeIn r)) (namesIn r) (nameCountIn r) (f .desk) in (record { desk = x .0; values = f .values }, x .1)
+  asks-fine false true c d = let x = get-bounded H (s .desk) (partyIn r) (nodeIn r) (s .values) (f .desk) (f .values) in (record { desk = x .0; values = f .values }, x .1)
+  asks-fine false false true d =
       let x = put-bounded H (s .desk) (partyIn r) (nodeIn r) (valueIn r) (s .values) (f .desk) (f .values) number-wide in
       (record { desk = x .0; values = rw (restored-full (s .values) _ (put-length H (s .desk) (partyIn r) (nodeIn r) (valueIn r) (s .values))) (x .1) }, x .2)
-  asks-fine false false false = let x = leave-bounded H (s .desk) (partyIn r) (f .desk) in (record { desk = x .0; values = f .values }, x .1)
+  asks-fine false false false true = let x = leave-bounded H (s .desk) (partyIn r) (f .desk) in (record { desk = x .0; values = f .values }, x .1)
+  asks-fine false false false false =
+      let x = add-bounded H (s .desk) (partyIn r) (nodeIn r) (valueIn r) (s .values) (f .desk) (f .values) in
+      (record { desk = x .0; values = rw (restored-full (s .values) _ (add-length H (s .desk) (partyIn r) (nodeIn r) (valueIn r) (s .values))) (x .1) }, x .2)
 
   pub perform-fine : Fine ((performStep s r) .state) × Short (answerIn ((performStep s r) .event))
   unfolding move
-  perform-fine = asks-fine (eqb (kindOf r) 3) (eqb (kindOf r) 4) (eqb (kindOf r) 5)
+  perform-fine = asks-fine (eqb (kindOf r) 3) (eqb (kindOf r) 4) (eqb (kindOf r) 5) (eqb (kindOf r) 6)
 
 pub fresh-bounded : Bounded freshDesk
 fresh-bounded = record { entries = refl; waiting = omega arith; grants-long = refl; grants = λ i. omega (arith, zero-at 32 i) }

@@ -1,7 +1,7 @@
 -- The stages of a party, and what is asked of one. Assumes nothing.
 use mathlib.Core.Bool.{Bool, true, false}
 use Rattle.locks.specs.declared.Mode.{Mode}
-use Rattle.locks.specs.declared.Mode.the-variants.{Reading, Writing}
+use Rattle.locks.specs.declared.Mode.the-variants.{Reading, Writing, Adding}
 use Rattle.locks.specs.declared.Lock.{Lock}
 use Rattle.locks.specs.declared.Stage.{Stage}
 use Rattle.locks.specs.declared.Stage.the-variants.{Out, Waiting, Holding}
@@ -47,12 +47,25 @@ ofLock p (Holding l) = p l
 abbrev pub isReading : Mode → Bool
 isReading Reading = true
 isReading Writing = false
+isReading Adding = false
+
+-- the mode is adding
+abbrev pub isAdding : Mode → Bool
+isAdding Reading = false
+isAdding Writing = false
+isAdding Adding = true
 
 -- 17: put in a reading visit
 abbrev pub readsOnly : Stage → Bool
 readsOnly Out = false
 readsOnly (Waiting l) = false
 readsOnly (Holding l) = isReading (l .mode)
+
+-- 18: get or put in an adding visit, or add in one that isn't (desk/specs/Steps)
+abbrev pub addsOnly : Stage → Bool
+addsOnly Out = false
+addsOnly (Waiting l) = false
+addsOnly (Holding l) = isAdding (l .mode)
 
 -- what a waiter waits for, held; another stage stays
 abbrev pub held : Stage → Stage

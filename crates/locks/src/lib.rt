@@ -5,15 +5,16 @@ ghost use lib.Dec.{ltb};
 ghost use Rattle.lists.specs.Lists.{anyBelow, any};
 ghost use Prim.Native.Nat.{_*_, _≤_};
 ghost use lib.ListN.{length, take};
-ghost use Rattle.locks.specs.Locks.{bothReading, conflict as conflicting, realInterval, isMode, isHold, modeWhen, modeNumber, lockNumbered, conflictCall};
-ghost use Rattle.locks.specs.Stages.{held, isOut, isWaiting, againstHolder, againstWaiter, ofLock, isReading, readsOnly};
+ghost use Rattle.locks.specs.Locks.{compatible as goingTogether, conflict as conflicting, realInterval, isMode, isHold, modeWhen, modeNumber, lockNumbered, conflictCall};
+ghost use Rattle.locks.specs.Stages.{held, isOut, isWaiting, againstHolder, againstWaiter, ofLock, isReading, isAdding, readsOnly, addsOnly};
 ghost use Rattle.locks.specs.Lent.{lent, spanned, coverIn, tablesShort, intervalWrong, namesWrong, lockOn, coverRight, insideLock, insideHold};
 ghost use Rattle.locks.specs.Inner.{outside};
 
-// A visit is reading or writing.
+// A visit is reading, writing or adding.
 pub enum Mode {
     Reading,
     Writing,
+    Adding,
 }
 
 // A hold, or a waiting call: mode, cover and the cover's interval. Its party is the place of its entry.
@@ -31,16 +32,36 @@ pub enum Stage {
     Holding(Lock),
 }
 
-// Whether both are reading.
-pub fn both_reading(a: Mode, b: Mode) -> bool
-    ensures { λ r. ⌜ r ≡ bothReading a b ⌝ }
+// Whether a mode is reading.
+fn is_reading(m: Mode) -> bool
+    ensures { λ r. ⌜ r ≡ isReading m ⌝ }
+{
+    match m {
+        Mode::Reading => true,
+        Mode::Writing => false,
+        Mode::Adding => false,
+    }
+}
+
+// Whether a mode is adding.
+fn is_adding(m: Mode) -> bool
+    ensures { λ r. ⌜ r ≡ isAdding m ⌝ }
+{
+    match m {
+        Mode::Reading => false,
+        Mode::Writing => false,
+        Mode::Adding => true,
+    }
+}
+
+// Whether two modes go together: both are reading, or both are adding.
+pub fn compatible(a: Mode, b: Mode) -> bool
+    ensures { λ r. ⌜ r ≡ goingTogether a b ⌝ }
 {
     match a {
+        Mode::Reading => is_reading(b),
         Mode::Writing => false,
-        Mode::Reading => match b {
-            Mode::Writing => false,
-            Mode::Reading => true,
-        },
+        Mode::Adding => is_adding(b),
     }
 }
 
@@ -56,7 +77,7 @@ pub fn conflict(a: Lock, b: Lock) -> bool
     }
     let m = a.mode;
     let k = b.mode;
-    !both_reading(m, k)
+    !compatible(m, k)
 }
 
 // Whether a lock conflicts with what a party at this stage holds.
@@ -103,16 +124,6 @@ pub fn is_waiting(s: Stage) -> bool
     }
 }
 
-// Whether a mode is reading.
-fn is_reading(m: Mode) -> bool
-    ensures { λ r. ⌜ r ≡ isReading m ⌝ }
-{
-    match m {
-        Mode::Reading => true,
-        Mode::Writing => false,
-    }
-}
-
 // Whether a party at this stage holds for reading.
 pub fn reads_only(s: Stage) -> bool
     ensures { λ r. ⌜ r ≡ readsOnly s ⌝ }
@@ -123,6 +134,20 @@ pub fn reads_only(s: Stage) -> bool
         Stage::Holding(l) => {
             let m = l.mode;
             is_reading(m)
+        }
+    }
+}
+
+// Whether a party at this stage holds for adding.
+pub fn adds_only(s: Stage) -> bool
+    ensures { λ r. ⌜ r ≡ addsOnly s ⌝ }
+{
+    match s {
+        Stage::Out => false,
+        Stage::Waiting(_) => false,
+        Stage::Holding(l) => {
+            let m = l.mode;
+            is_adding(m)
         }
     }
 }
@@ -265,14 +290,17 @@ pub fn inside_hold(intervals: &[u16], node: usize, s: Stage) -> bool
     }
 }
 
-// Reading where it is so, else writing: of a number m that is a mode, `m == 1` tells.
-pub fn mode_when(reading: bool) -> Mode
-    ensures { λ r. ⌜ r ≡ modeWhen reading ⌝ }
+// Reading where the first is so, else writing where the second is, else adding: of a number m that is a mode, `m == 1` and `m == 2` tell.
+pub fn mode_when(reading: bool, writing: bool) -> Mode
+    ensures { λ r. ⌜ r ≡ modeWhen reading writing ⌝ }
 {
     if reading {
         return Mode::Reading;
     }
-    Mode::Writing
+    if writing {
+        return Mode::Writing;
+    }
+    Mode::Adding
 }
 
 // Whether a number is a mode.
@@ -282,7 +310,10 @@ fn is_mode(m: u32) -> bool
     if m == 1 {
         return true;
     }
-    m == 2
+    if m == 2 {
+        return true;
+    }
+    m == 3
 }
 
 // Whether an interval lies in 1 to 256, low at most high.
@@ -313,7 +344,7 @@ fn lock_numbered(m: u32, low: u32, high: u32) -> Lock
     requires { ⌜ isHold m low high ≡ true ⌝ }
     ensures { λ r. ⌜ r ≡ lockNumbered m low high ⌝ }
 {
-    let mode = mode_when(m == 1);
+    let mode = mode_when(m == 1, m == 2);
     Lock {
         mode,
         cover: 0,
@@ -379,5 +410,6 @@ pub fn mode_number(m: Mode) -> u16
     match m {
         Mode::Reading => 1,
         Mode::Writing => 2,
+        Mode::Adding => 3,
     }
 }

@@ -18,7 +18,8 @@ use Rattle.locks.specs.Lent.{Hierarchy}
 use Rattle.runs.specs.Run.{State}
 use Rattle.replay.specs.declared.Outcome.{Outcome}
 use Rattle.replay.specs.declared.Step.{Step}
-use Rattle.replay.specs.Replay.{StepAnswer, granted, waits, value, stored, left, refused, stateOf, startOf, stepRecords, isRecord, isStep, performStep, Performed, performed, performIf, perform}
+use Rattle.replay.specs.Replay.{StepAnswer, granted, waits, value, stored, added, left, refused, stateOf, startOf, stepRecords}
+use Rattle.replay.specs.Replay.{isRecord, isStep, performStep, Performed, performed, performIf, perform}
 use Rattle.replay.specs.Answers.{outcomeOf, Performs}
 use Rattle.replay.proofs.Outcomes.{performs-state}
 use Rattle.reach_sets.specs.Sets.{callSet}
@@ -56,6 +57,7 @@ answer-waits (granted cover) needless = refl
 answer-waits waits needless = refl
 answer-waits (value number) needless = refl
 answer-waits stored needless = refl
+answer-waits added needless = refl
 answer-waits (left parties) needless = refl
 answer-waits (refused number) needless = refl
 
@@ -65,6 +67,7 @@ answer-called sets r (granted cover) named called c = called-more sets named cal
 answer-called sets r waits named called c = called-more sets named called c (partyIn r) (namesIn r)
 answer-called sets r (value number) named called c = c
 answer-called sets r stored named called c = c
+answer-called sets r added named called c = c
 answer-called sets r (left parties) named called c = c
 answer-called sets r (refused number) named called c = c
 
@@ -132,6 +135,7 @@ step-few waits true = (omega arith, omega arith)
 step-few waits false = (omega arith, omega arith)
 step-few (value number) needless = (omega arith, omega arith)
 step-few stored needless = (omega arith, omega arith)
+step-few added needless = (omega arith, omega arith)
 step-few (left parties) needless = (omega arith, omega arith)
 step-few (refused number) needless = (omega arith, omega arith)
 

@@ -17,7 +17,7 @@ use Rattle.hierarchy.proofs.Reaches.{reach-long}
 use Rattle.locks.specs.declared.Mode.{Mode}
 use Rattle.locks.specs.declared.Stage.{Stage}
 use Rattle.locks.specs.declared.Stage.the-variants.{Out, Waiting, Holding}
-use Rattle.locks.specs.Locks.{bothReading}
+use Rattle.locks.specs.Locks.{compatible}
 use Rattle.parties.specs.declared.Entry.{Entry}
 use Rattle.parties.specs.Parties.{stageIn}
 use Rattle.reach_sets.specs.declared.NodeSet.{NodeSet}
@@ -51,8 +51,8 @@ module _ (n : ℕ) (es sets : List ℕ) (k : Sets n es sets) where
   -- so a party stands in the way by the sets where it does by the reaches
   stage-way : (mode : Mode) (names : List ℕ) (s : Stage) (theirs : List ℕ) → setInWay s (callSet sets theirs) mode (callSet sets names) ≡ inWay n es mode names s theirs
   stage-way mode names Out theirs = refl
-  stage-way mode names (Waiting l) theirs = ap (not (bothReading (l .mode) mode) &&_) (meets-names theirs names)
-  stage-way mode names (Holding l) theirs = ap (not (bothReading (l .mode) mode) &&_) (meets-names theirs names)
+  stage-way mode names (Waiting l) theirs = ap (not (compatible (l .mode) mode) &&_) (meets-names theirs names)
+  stage-way mode names (Holding l) theirs = ap (not (compatible (l .mode) mode) &&_) (meets-names theirs names)
 
   pub some-way : (entries : List Entry) (named : List (List ℕ)) (called : List ℕ) → Called sets named called → (mode : Mode) (names : List ℕ)
       → someInWay entries called mode (callSet sets names) ≡ anyBelow 32 (λ party. inWay n es mode names (stageIn entries party) (namesOf named party))

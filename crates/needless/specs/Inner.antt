@@ -10,7 +10,7 @@ use Rattle.locks.specs.declared.Mode.{Mode}
 use Rattle.locks.specs.declared.Mode.the-variants.{Writing}
 use Rattle.locks.specs.declared.Stage.{Stage}
 use Rattle.locks.specs.declared.Stage.the-variants.{Out, Waiting, Holding}
-use Rattle.locks.specs.Locks.{bothReading}
+use Rattle.locks.specs.Locks.{compatible}
 use Rattle.locks.specs.Lent.{Hierarchy}
 use Rattle.parties.specs.declared.Entry.{Entry}
 use Rattle.parties.specs.Parties.{stageIn}
@@ -37,7 +37,7 @@ modeOf (Holding l) = l .mode
 
 -- it stands in a newcomer's way, by the sets of their calls
 abbrev pub setInWay : Stage → NodeSet → Mode → NodeSet → Bool
-setInWay stage theirs mode s = here stage && not (bothReading (modeOf stage) mode) && meets theirs s
+setInWay stage theirs mode s = here stage && not (compatible (modeOf stage) mode) && meets theirs s
 
 -- one of the 32 parties does
 abbrev pub someInWay : List Entry → List ℕ → Mode → NodeSet → Bool

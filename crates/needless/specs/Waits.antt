@@ -13,12 +13,13 @@ use Rattle.locks.specs.declared.Mode.{Mode}
 use Rattle.locks.specs.declared.Lock.{Lock}
 use Rattle.locks.specs.declared.Stage.{Stage}
 use Rattle.locks.specs.declared.Stage.the-variants.{Out, Waiting, Holding}
-use Rattle.locks.specs.Locks.{bothReading, modeNumbered}
+use Rattle.locks.specs.Locks.{compatible, modeNumbered}
 use Rattle.locks.specs.Lent.{Hierarchy}
 use Rattle.desk.specs.declared.Desk.{Desk}
 use Rattle.desk.specs.Desks.{stageAt}
 use Rattle.runs.specs.Run.{State}
-use Rattle.replay.specs.Replay.{StepAnswer, granted, waits, value, stored, left, refused, performed, performStep, recordList, sizeOf, edgeTable, edgeCountOf, stepRecords, builtOf, startOf}
+use Rattle.replay.specs.Replay.{StepAnswer, granted, waits, value, stored, added, left, refused, performed, performStep}
+use Rattle.replay.specs.Replay.{recordList, sizeOf, edgeTable, edgeCountOf, stepRecords, builtOf, startOf}
 use Rattle.needless.specs.declared.Waits.{Waits}
 
 -- THE TWO NUMBERS, all waits and needless ones. No wait
@@ -47,6 +48,7 @@ isWaits (granted cover) = false
 isWaits waits = true
 isWaits (value number) = false
 isWaits stored = false
+isWaits added = false
 isWaits (left parties) = false
 isWaits (refused number) = false
 
@@ -56,6 +58,7 @@ makesVisit (granted cover) = true
 makesVisit waits = true
 makesVisit (value number) = false
 makesVisit stored = false
+makesVisit added = false
 makesVisit (left parties) = false
 makesVisit (refused number) = false
 
@@ -69,9 +72,10 @@ namedAfter r answer named = cond (makesVisit answer) (set named (partyIn r) (nam
 abbrev pub reachesMeet : ℕ → List ℕ → List ℕ → List ℕ → Bool
 reachesMeet n es names others = anyBelow n (λ node. inReach n es names node && inReach n es others node)
 
--- one that holds or waits for this lock stands in the newcomer's way: it is no reader against a reader, and has named nodes whose reach meets the newcomer's
+-- one that holds or waits for this lock stands in the newcomer's way: it is no reader against a reader, nor, like two readers, one adding visit against another (point 5),
+-- and has named nodes whose reach meets the newcomer's
 abbrev pub lockInWay : ℕ → List ℕ → Mode → List ℕ → Lock → List ℕ → Bool
-lockInWay n es mode names l theirs = not (bothReading (l .mode) mode) && reachesMeet n es theirs names
+lockInWay n es mode names l theirs = not (compatible (l .mode) mode) && reachesMeet n es theirs names
 
 -- a party at this stage does: a holder or a waiter
 abbrev pub inWay : ℕ → List ℕ → Mode → List ℕ → Stage → List ℕ → Bool

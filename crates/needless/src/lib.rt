@@ -56,12 +56,13 @@ fn mode_of(stage: Stage) -> Mode
     }
 }
 
-// Whether a party at this stage stands in a newcomer's way, by the sets of both calls: a holder or waiter, other than a reader against a reader.
+// Whether a party at this stage stands in a newcomer's way, by the sets of both calls: a holder or waiter, other than a reader against a reader or one adding
+// visit against another.
 fn in_way(stage: Stage, theirs: NodeSet, mode: Mode, set: NodeSet) -> bool
     ensures { λ r. ⌜ r ≡ setInWay stage theirs mode set ⌝ }
 {
     let m = mode_of(stage);
-    is_here(stage) & !locks::both_reading(m, mode) & reach_sets::meets(theirs, set)
+    is_here(stage) & !locks::compatible(m, mode) & reach_sets::meets(theirs, set)
 }
 
 // Whether one of the 32 parties does, by the sets of their calls.
@@ -102,6 +103,7 @@ fn visited(outcome: Outcome) -> bool
         Outcome::Waits => true,
         Outcome::Value(_v) => false,
         Outcome::Stored => false,
+        Outcome::Added => false,
         Outcome::Left(_count) => false,
         Outcome::Refused(_number) => false,
     }
@@ -116,6 +118,7 @@ fn is_wait(outcome: Outcome) -> bool
         Outcome::Waits => true,
         Outcome::Value(_v) => false,
         Outcome::Stored => false,
+        Outcome::Added => false,
         Outcome::Left(_count) => false,
         Outcome::Refused(_k) => false,
     }
@@ -147,7 +150,8 @@ fn tally(
     if !is_wait(outcome) {
         return before;
     }
-    let mode = locks::mode_when(octets::byte(bytes, 2) == 1);
+    let m = octets::byte(bytes, 2);
+    let mode = locks::mode_when(m == 1, m == 2);
     let set = call_in(sets, bytes);
     let entries = desk.entries;
     let needful = some_in_way(entries, called, mode, set);

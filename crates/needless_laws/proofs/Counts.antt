@@ -14,7 +14,7 @@ use Rattle.blocks.specs.Record.{modeIn, namesIn}
 use Rattle.blocks.specs.File.{fileChecks, fileRecords}
 use Rattle.locks.specs.Locks.{modeNumbered}
 use Rattle.runs.specs.Run.{State, alsoRan, run}
-use Rattle.replay.specs.Replay.{StepAnswer, granted, waits, value, stored, left, refused, performed, performStep, performAll, answersOf, FileRun}
+use Rattle.replay.specs.Replay.{StepAnswer, granted, waits, value, stored, added, left, refused, performed, performStep, performAll, answersOf, FileRun}
 use Rattle.replay.specs.Replay.{recordList, sizeOf, edgeTable, edgeCountOf, stepRecords, builtOf, startOf, runUnless, runRecords, fileUnless as runFileUnless, runFile}
 use Rattle.needless.specs.declared.Waits.{Waits}
 use Rattle.needless.specs.Waits.{noWaits, nothingNamed, isWaits, namedAfter, isNeedless, waitsBy, waitsOfSteps, recordsUnless, waitsOfRecords, waitsUnless, waitsOf}
@@ -26,6 +26,7 @@ answer-all (granted cover) b = refl
 answer-all waits b = refl
 answer-all (value number) b = refl
 answer-all stored b = refl
+answer-all added b = refl
 answer-all (left parties) b = refl
 answer-all (refused number) b = refl
 
@@ -35,6 +36,7 @@ answer-most waits true = omega arith
 answer-most waits false = omega arith
 answer-most (value number) b = omega arith
 answer-most stored b = omega arith
+answer-most added b = omega arith
 answer-most (left parties) b = omega arith
 answer-most (refused number) b = omega arith
 
@@ -44,6 +46,7 @@ answer-one (granted cover) names o = o
 answer-one waits names o = o
 answer-one (value number) names o = refl
 answer-one stored names o = refl
+answer-one added names o = refl
 answer-one (left parties) names o = refl
 answer-one (refused number) names o = refl
 
@@ -108,6 +111,6 @@ waits-most file = by (runFile file) (file-told file)
     by (done run) t = t .1
     by (denied k) t = rw t (omega arith)
 
--- where every step record names one node, refused or not, each visit does (a get, put or leave record that is right names none)
+-- where every step record names one node, refused or not, each visit does (a get, put, add or leave record that is right names none)
 pub plain-each : (rs : List (List ℕ)) → every (λ r. oneNode (namesIn r)) (stepRecords rs) ≡ true → OneEach rs
 plain-each rs o = steps-one (stepRecords rs) (startOf (builtOf rs) (sizeOf rs)) o

@@ -13,8 +13,8 @@ use Rattle.blocks.specs.Block.{afterRecord, afterRecords, countRight, headRight
 use Rattle.blocks.specs.File.{afterBlocks, recordsOf, notBlocks, blocksOf}
 use Rattle.parties.specs.Sound.{soundParties}
 use Rattle.sweeps.specs.Sweeps.{offer, sweep}
-use Rattle.desk.specs.Steps.{enterStep, getStep, putStep, leaveStep}
-use Rattle.runs.specs.Run.{lend, restored, lentTo, afterEnter, afterGet, afterPut, listed, afterLeave, moveCall, move}
+use Rattle.desk.specs.Steps.{enterStep, getStep, putStep, addStep, leaveStep}
+use Rattle.runs.specs.Run.{lend, restored, lentTo, afterEnter, afterGet, afterPut, afterAdd, listed, afterLeave, moveCall, move}
 use Rattle.replay.specs.Replay.{eachRecord, edgeTable}
 use Rattle.trees.specs.Tree.{parentCount}
 use Rattle.needless.specs.Waits.{waitsOfSteps, waitsOfRecords, waitsOf}
@@ -28,6 +28,6 @@ pub all-figures : every right figures ≡ true
 unfolding allBelow anyBelow every any keep count over foldFrom least greatest refusal children someEdge spread spreads reach edgeTwice
     someUnreached meet visit inside walk numbering numbersAmong lowOf highOf intervalsFrom intervalTable closest words sums
     fletcher enterRight kinds rowIn recordRight inOrder afterRecord afterRecords countRight headRight afterBlock recordsIn blockBody blockOf afterBlocks
-    recordsOf notBlocks blocksOf soundParties enterStep getStep putStep offer sweep leaveStep eachRecord edgeTable lend restored lentTo afterEnter afterGet afterPut listed afterLeave
+    recordsOf notBlocks blocksOf soundParties enterStep getStep putStep addStep offer sweep leaveStep eachRecord edgeTable lend restored lentTo afterEnter afterGet afterPut afterAdd listed afterLeave
     moveCall move parentCount waitsOfSteps waitsOfRecords waitsOf visitsNameOne four sameNumbers right fileT fileShared figures
 all-figures = refl

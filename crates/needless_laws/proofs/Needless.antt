@@ -26,16 +26,16 @@ use Rattle.parties.specs.Parties.{entryOf}
 use Rattle.sweeps.specs.Sweeps.{Sweep}
 use Rattle.desk.specs.declared.Desk.{Desk}
 use Rattle.desk.specs.Desks.{queueOf}
-use Rattle.desk.specs.Steps.{free, enterOwn, enterRefusal, enterIf, enterUnless, enterStep, GetResult, getStep, PutResult, putStep, leaveRefusal, leaveUnless, leaveStep}
+use Rattle.desk.specs.Steps.{free, enterOwn, enterRefusal, enterIf, enterUnless, enterStep, GetResult, getStep, PutResult, putStep, addStep, leaveRefusal, leaveUnless, leaveStep}
 use Rattle.desk.proofs.Facts.{step-facts}
-use Rattle.runs.specs.Run.{Call, State, start, lend, restored, whole, afterEnter, afterGet, afterPut, listed, afterLeave, moveCall, alsoRan, run}
+use Rattle.runs.specs.Run.{Call, State, start, lend, restored, whole, afterEnter, afterGet, afterPut, afterAdd, listed, afterLeave, moveCall, alsoRan, run}
 use Rattle.runs.proofs.Runs.{move-hierarchy}
 use Rattle.history.proofs.Facts.{all-out, sweep-length}
-use Rattle.soundness.proofs.Laws.{unchanged-get, unchanged-put}
-use Rattle.replay.specs.Replay.{StepAnswer, enterLine, getLine, putLine, enterCall, getCall, putCall, leaveCall, callOf, stepOf, stateOf, Performed, performed, performStep, performAll}
+use Rattle.soundness.proofs.Laws.{unchanged-get, unchanged-put, unchanged-add}
+use Rattle.replay.specs.Replay.{StepAnswer, enterLine, getLine, putLine, addLine, enterCall, getCall, putCall, addCall, leaveCall, callOf, stepOf, stateOf, Performed, performed, performStep, performAll}
 use Rattle.replay.specs.Replay.{recordList, sizeOf, edgeTable, edgeCountOf, stepRecords, builtOf, startOf}
 use Rattle.replay.proofs.Records.{edge-table-length}
-use Rattle.replay.proofs.Outcomes.{call-3, call-4, call-5, call-6, performs-call}
+use Rattle.replay.proofs.Outcomes.{call-3, call-4, call-5, call-6, call-7, performs-call}
 use Rattle.trees.specs.Tree.{oneParentEach}
 use Rattle.needless.specs.Waits.{nothingNamed, namedAfter, waitsOfStep, waitsOfSteps, recordsUnless, waitsOfRecords, waitsUnless, waitsOf}
 use Rattle.needless_laws.specs.Visits.{oneNode, visitsOne, visitsNameOne, OneEach, namedAfterSteps}
@@ -110,7 +110,7 @@ module _ (s : State) (named : List (List ℕ)) (known : Known s named) (r : List
           (subst (NamedBy H asked) all-names
           (call-named H d (partyIn r) (modeNumbered (modeIn r)) (namesIn r) (nameCountIn r) fine (one-named (free d asked) o)))
 
-  -- GET AND PUT name nothing and leave the desk
+  -- GET, PUT AND ADD name nothing and leave the desk
   quiet-seen : (d′ : Desk) (values : List ℕ) (a : StepAnswer) → d′ ≡ d → namedAfter r a named ≡ named → (waitsOfStep s named r a) .needless ≡ 0
       → Seen s named r (record { state = stateOf H d′ values; answer = a })
   quiet-seen d′ values a e q z =
@@ -127,6 +127,10 @@ module _ (s : State) (named : List (List ℕ)) (known : Known s named) (r : List
   put-quiet (done v) = (refl, refl)
   put-quiet (denied k) = (refl, refl)
 
+  add-quiet : (a : Answer (Unit {0})) → (namedAfter r (addLine a) named ≡ named) × ((waitsOfStep s named r (addLine a)) .needless ≡ 0)
+  add-quiet (done v) = (refl, refl)
+  add-quiet (denied k) = (refl, refl)
+
   get-seen : Seen s named r (performed (moveCall H (getCall r) s))
   unfolding moveCall afterGet
   get-seen =
@@ -142,6 +146,14 @@ module _ (s : State) (named : List (List ℕ)) (known : Known s named) (r : List
       let g : PutResult = putStep H d (partyIn r) (nodeIn r) (valueIn r) values in
       let q = put-quiet (g .answer) in
       quiet-seen (g .desk) (restored (s .values) (g .values)) (putLine (g .answer)) (unchanged-put H d (partyIn r) (nodeIn r) (valueIn r) values) (q .0) (q .1)
+
+  add-seen : Seen s named r (performed (moveCall H (addCall r) s))
+  unfolding moveCall afterAdd
+  add-seen =
+      let values : List ℕ = lend (s .values) whole in
+      let g : PutResult = addStep H d (partyIn r) (nodeIn r) (valueIn r) values in
+      let q = add-quiet (g .answer) in
+      quiet-seen (g .desk) (restored (s .values) (g .values)) (addLine (g .answer)) (unchanged-add H d (partyIn r) (nodeIn r) (valueIn r) values) (q .0) (q .1)
 
   -- LEAVE, its pass included
   leave-seen : Seen s named r (performed (moveCall H (leaveCall r) s))
@@ -172,7 +184,9 @@ module _ (s : State) (named : List (List ℕ)) (known : Known s named) (r : List
       (λ b. by (getCall r) (call-4 r a b) (λ o. get-seen))
       (λ b. bool (eqb (kindOf r) 5)
       (λ c. by (putCall r) (call-5 r a b c) (λ o. put-seen))
-      (λ c. by (leaveCall r) (call-6 r a b c) (λ o. leave-seen))))
+      (λ c. bool (eqb (kindOf r) 6)
+      (λ e. by (leaveCall r) (call-6 r a b c e) (λ o. leave-seen))
+      (λ e. by (addCall r) (call-7 r a b c e) (λ o. add-seen)))))
     where
       Shows : Performed → Type 0
       Shows p = visitsOne (p .answer) (namesIn r) ≡ true → Seen s named r p

@@ -18,7 +18,7 @@ use Rattle.interval_laws.proofs.Laws.{Shared, built-low, built-high, interval-r
 use Rattle.locks.specs.declared.Lock.{Lock}
 use Rattle.locks.specs.declared.Stage.{Stage}
 use Rattle.locks.specs.declared.Stage.the-variants.{Out, Waiting, Holding}
-use Rattle.locks.specs.Locks.{bothReading, share, conflict}
+use Rattle.locks.specs.Locks.{compatible, share, conflict}
 use Rattle.locks.specs.Stages.{againstHolder, againstWaiter}
 use Rattle.locks.specs.Lent.{Hierarchy}
 use Rattle.desk.specs.declared.Desk.{Desk}
@@ -79,11 +79,11 @@ module _ (H : Hierarchy) (built : BuiltTree H) where
       (nodes-share (H .n) (H .edges) (H .edgeCount) (built .tree) (h .node) (mine .node) (h .below) (mine .below)
       ∙ sym (meet-one (H .n) edges theirs names (h .node) (mine .node) (h .there) (h .same) (mine .there) (mine .same)))
 
-  -- so they conflict where these meet and not both are reading
+  -- so they conflict where these meet and their modes do not go together
   named-conflict : (k l : Lock) (theirs names : List ℕ) → NamedBy H k theirs → NamedBy H l names
-      → conflict k l ≡ (not (bothReading (k .mode) (l .mode)) && reachesMeet (H .n) edges theirs names)
+      → conflict k l ≡ (not (compatible (k .mode) (l .mode)) && reachesMeet (H .n) edges theirs names)
   named-conflict k l theirs names h mine =
-      rw (named-share k l theirs names h mine) (and-comm (reachesMeet (H .n) edges theirs names) (not (bothReading (k .mode) (l .mode))))
+      rw (named-share k l theirs names h mine) (and-comm (reachesMeet (H .n) edges theirs names) (not (compatible (k .mode) (l .mode))))
 
   -- a party is against a lock just where it stands in the way
   in-way : (l : Lock) (names : List ℕ) → NamedBy H l names → (x : Stage) (theirs : List ℕ) → StageNamed H x theirs

@@ -38,6 +38,10 @@ reading = 1
 abbrev pub writing : ℕ
 writing = 2
 
+-- mode 3
+abbrev pub adding : ℕ
+adding = 3
+
 -- a tree: a root and three children
 abbrev pub three : List (List ℕ) → List (List ℕ)
 three steps = size 4 ∷ edge 0 1 ∷ edge 0 2 ∷ edge 0 3 ∷ steps
@@ -55,6 +59,13 @@ figures =
     ∷ row fileT 0 0 2 0
     -- 1 writes 2, 2 reads 1; 3's reading of 4 waits for 1, which shares nothing with it. 2 named 1, which 4 reaches, but is a reader too
     ∷ row (shared (enter1 1 writing 2 ∷ enter1 2 reading 1 ∷ enter1 3 reading 4 ∷ [])) 0 1 1 1
+    -- the same with two adding visits, which go like two readers
+    ∷ row (shared (enter1 1 writing 2 ∷ enter1 2 adding 1 ∷ enter1 3 adding 4 ∷ [])) 0 1 1 1
+    -- 2 reads 1, and so it counts that 4 reaches 1; so it does where 2 adds and 3 reads
+    ∷ row (shared (enter1 1 writing 2 ∷ enter1 2 reading 1 ∷ enter1 3 adding 4 ∷ [])) 0 1 1 0
+    ∷ row (shared (enter1 1 writing 2 ∷ enter1 2 adding 1 ∷ enter1 3 reading 4 ∷ [])) 0 1 1 0
+    -- 2's adding in 2 waits for 1, a reader of 4, which shares nothing with it
+    ∷ row (shared (enter1 1 reading 4 ∷ enter1 2 adding 2 ∷ [])) 0 1 1 1
     -- 1 has left, and it does not count that it named 2
     ∷ row (shared (enter1 1 writing 2 ∷ leave 1 ∷ enter1 2 writing 4 ∷ enter1 3 writing 2 ∷ [])) 0 1 1 1
     -- 1 came back, and what it named before does not count
@@ -68,6 +79,8 @@ figures =
     1 1 3 0
     -- 2's writing of 0 waits for 1; 3's writing of node 2 waits for party 2, which waits itself, and for no holder
     ∷ row (three (enter1 1 writing 1 ∷ enter1 2 writing 0 ∷ enter1 3 writing 2 ∷ [])) 1 1 2 0
+    -- 1 and 2 add in 1; 3's reading of 1 waits for them, 4's adding in 1 for 3, which waits itself
+    ∷ row (three (enter1 1 adding 1 ∷ enter1 2 adding 1 ∷ enter1 3 reading 1 ∷ enter1 4 adding 1 ∷ [])) 1 1 2 0
     -- 1 writes 1 and 3, and a writer of 2 waits needlessly: one name each is needed
     ∷ row (three (enter2 1 writing 1 3 ∷ enter1 2 writing 2 ∷ [])) 1 0 1 1
     -- 1 writes 2: 2's reading of 1 and 3 waits needlessly, 3's of 1 and 2 does not

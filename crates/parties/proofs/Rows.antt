@@ -11,11 +11,11 @@ use Rattle.lists.specs.Lists.{allBelow, anyBelow}
 use Rattle.lists.proofs.Bools.{not-both}
 use Rattle.lists.proofs.Bounded.{below-more, all-of, any-one-more, any-take, same-any, same-all}
 use Rattle.locks.specs.declared.Mode.{Mode}
-use Rattle.locks.specs.declared.Mode.the-variants.{Reading, Writing}
+use Rattle.locks.specs.declared.Mode.the-variants.{Reading, Writing, Adding}
 use Rattle.locks.specs.declared.Lock.{Lock}
 use Rattle.locks.specs.declared.Stage.{Stage}
 use Rattle.locks.specs.declared.Stage.the-variants.{Out, Waiting, Holding}
-use Rattle.locks.specs.Locks.{bothReading, share, conflict, modeNumbered, lockNumbered, modeNumber}
+use Rattle.locks.specs.Locks.{compatible, share, conflict, modeNumbered, lockNumbered, modeNumber}
 use Rattle.locks.specs.Stages.{againstHolder, againstWaiter, holdersConflict}
 use Rattle.parties.specs.declared.Entry.{Entry}
 use Rattle.parties.specs.Parties.{stageIn, meetsHolder, meetsWaiter}
@@ -45,16 +45,17 @@ all-more p n = ap (λ (k : ℕ). allBelow k p) (add-one n)
 mode-number : (m : Mode) → modeNumbered (modeNumber m) ≡ m
 mode-number Reading = refl
 mode-number Writing = refl
+mode-number Adding = refl
 
 -- a lock as its row has it conflicts with what the lock does
 abbrev rowed : Lock → Lock
 rowed l = lockNumbered (modeNumber (l .mode)) (l .low) (l .high)
 
 rowed-first : (l x : Lock) → conflict (rowed l) x ≡ conflict l x
-rowed-first l x = ap (λ (m : Mode). share l x && not (bothReading m (x .mode))) (mode-number (l .mode))
+rowed-first l x = ap (λ (m : Mode). share l x && not (compatible m (x .mode))) (mode-number (l .mode))
 
 rowed-second : (x l : Lock) → conflict x (rowed l) ≡ conflict x l
-rowed-second x l = ap (λ (m : Mode). share x l && not (bothReading (x .mode) m)) (mode-number (l .mode))
+rowed-second x l = ap (λ (m : Mode). share x l && not (compatible (x .mode) m)) (mode-number (l .mode))
 
 module _ (rows : List ℕ) (k : ℕ) (l : Lock) where
   pub put-length : length (putRow rows k l) ≡ length rows

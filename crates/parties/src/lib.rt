@@ -104,7 +104,7 @@ fn listed_if_waiting(queue: &[u8], waiting: usize, party: usize, s: Stage) -> bo
 fn row_lock(m: u16, low: u16, high: u16) -> Lock
     ensures { λ r. ⌜ r ≡ lockNumbered m low high ⌝ }
 {
-    let mode = locks::mode_when(m == 1);
+    let mode = locks::mode_when(m == 1, m == 2);
     Lock {
         mode,
         cover: 0,

@@ -15,21 +15,22 @@ use Rattle.locks.specs.declared.Mode.{Mode}
 use Rattle.desk.specs.declared.EnterStep.{EnterStep}
 use Rattle.desk.specs.declared.GetStep.{GetStep}
 use Rattle.desk.specs.declared.PutStep.{PutStep}
+use Rattle.desk.specs.declared.AddStep.{AddStep}
 use Rattle.desk.specs.declared.LeaveStep.{LeaveStep}
 use Rattle.locks.specs.Locks.{modeNumbered}
 use Rattle.locks.specs.Lent.{Hierarchy}
 use Rattle.desk.specs.Steps.{granted as admitted, Admission, waits as queued, EnterResult, GetResult, PutResult, LeaveResult, afterLeaving}
-use Rattle.desk.specs.Steps.{leaveUnless, leaveRefusal, enterStep, getStep, putStep, leaveStep}
-use Rattle.desk.specs.Answers.{Enters, Gets, Puts, Leaves, enterMeaning, getMeaning, putMeaning, leaveMeaning}
-use Rattle.runs.specs.Run.{lend, Call, leave, lentTo, State, Moved, afterEnter, afterGet, afterPut, listed, afterLeave, moveCall, move}
-use Rattle.runs.proofs.Lends.{restored-full, put-length}
+use Rattle.desk.specs.Steps.{leaveUnless, leaveRefusal, enterStep, getStep, putStep, addStep, leaveStep}
+use Rattle.desk.specs.Answers.{Enters, Gets, Puts, Adds, Leaves, enterMeaning, getMeaning, putMeaning, addMeaning, leaveMeaning}
+use Rattle.runs.specs.Run.{lend, Call, leave, lentTo, State, Moved, afterEnter, afterGet, afterPut, afterAdd, listed, afterLeave, moveCall, move}
+use Rattle.runs.proofs.Lends.{restored-full, put-length, add-length}
 use Rattle.runs.proofs.Exact.{call-exact}
 use Rattle.runs.proofs.Runs.{move-hierarchy}
 use Rattle.replay.specs.declared.Outcome.{Outcome}
 use Rattle.replay.specs.declared.Outcome.the-variants.{Refused}
 use Rattle.replay.specs.declared.Step.{Step}
-use Rattle.replay.specs.Replay.{enterCall, getCall, putCall, leaveCall, callOf, stepOf, StepAnswer, granted, waits, value}
-use Rattle.replay.specs.Replay.{stored, left, refused, enterLine, getLine, putLine, leaveLine, answerIn, stateOf, isStep, performStep, performed, performIf, perform}
+use Rattle.replay.specs.Replay.{enterCall, getCall, putCall, addCall, leaveCall, callOf, stepOf, StepAnswer, granted, waits, value}
+use Rattle.replay.specs.Replay.{stored, added, left, refused, enterLine, getLine, putLine, addLine, leaveLine, answerIn, stateOf, isStep, performStep, performed, performIf, perform}
 use Rattle.replay.specs.Answers.{stepMeaning, outcomeOf, partiesOf, Performs}
 use Rattle.replay.specs.Inner.{leftOutcome, PerformsCall, PerformsAny}
 
@@ -40,6 +41,7 @@ form-means (granted cover) = refl
 form-means waits = refl
 form-means (value number) = refl
 form-means stored = refl
+form-means added = refl
 form-means (left parties) = ap left (take-append-seam parties (drop (length parties) (replicate 32 0)))
 form-means (refused k) = refl
 
@@ -56,7 +58,7 @@ performs r values m d v o t =
       parties = t;
     }
 
--- enter, get and put list no parties
+-- enter, get, put and add list no parties
 enter-none : (a : Answer Admission) → partiesOf (enterLine a) ≡ replicate 32 0
 enter-none (done (admitted cover)) = refl
 enter-none (done queued) = refl
@@ -69,6 +71,10 @@ get-none (denied k) = refl
 put-none : (a : Answer (Unit {0})) → partiesOf (putLine a) ≡ replicate 32 0
 put-none (done _) = refl
 put-none (denied k) = refl
+
+add-none : (a : Answer (Unit {0})) → partiesOf (addLine a) ≡ replicate 32 0
+add-none (done _) = refl
+add-none (denied k) = refl
 
 -- leave's list, read back
 module _ (d : Desk) (party : ℕ) where
@@ -121,6 +127,18 @@ module _ (H : Hierarchy) (d : Desk) (bytes : List ℕ) (party : ℕ) (at-party :
       (e .2 ∙ sym (restored-full values (x .values) (put-length H d party node number values)))
       (eo ∙ ap (λ (a : Answer (Unit {0})). outcomeOf (putLine a)) (e .1)) (sym (put-none (x .answer))))
 
+  pub added-performs : (node number : ℕ) → node ≡ nodeIn bytes → number ≡ valueIn bytes → (values values′ : List ℕ) (r : AddStep) (o : Outcome)
+      → Adds r values′ (addStep H d party node number values) → o ≡ outcomeOf (addLine (addMeaning (r .answer)))
+      → PerformsCall (plain (r .desk) o) H d (addCall bytes) values values′
+  unfolding moveCall afterAdd lend
+  added-performs node number en ev values values′ r o e eo =
+      let x : PutResult = addStep H d party node number values in
+      let same : x ≡ addStep H d (partyIn bytes) (nodeIn bytes) (valueIn bytes) values = rw (at-party, en, ev) refl in
+      subst (λ (y : PutResult). Performs (plain (r .desk) o) values′ (performed (afterAdd (partyIn bytes) (nodeIn bytes) (valueIn bytes) (stateOf H d values) y))) same
+      (performs _ values′ (afterAdd (partyIn bytes) (nodeIn bytes) (valueIn bytes) (stateOf H d values) x) (e .0)
+      (e .2 ∙ sym (restored-full values (x .values) (add-length H d party node number values)))
+      (eo ∙ ap (λ (a : Answer (Unit {0})). outcomeOf (addLine a)) (e .1)) (sym (add-none (x .answer))))
+
   pub left-performs : (r : LeaveStep) (list : List ℕ) (o : Outcome) → Leaves r list (leaveStep H d party (replicate 32 0)) → o ≡ leftOutcome (leaveMeaning (r .answer))
       → PerformsAny (record { desk = r .desk; outcome = o; parties = list }) H d (leaveCall bytes)
   unfolding moveCall afterLeave leaveStep
@@ -141,8 +159,12 @@ module _ (r : List ℕ) where
     pub call-5 : eqb (kindOf r) 5 ≡ true → callOf r ≡ putCall r
     call-5 g = rw (e, f, g) refl
 
-    pub call-6 : eqb (kindOf r) 5 ≡ false → callOf r ≡ leaveCall r
-    call-6 g = rw (e, f, g) refl
+    module _ (g : eqb (kindOf r) 5 ≡ false) where
+      pub call-6 : eqb (kindOf r) 6 ≡ true → callOf r ≡ leaveCall r
+      call-6 h = rw (e, f, g, h) refl
+
+      pub call-7 : eqb (kindOf r) 6 ≡ false → callOf r ≡ addCall r
+      call-7 h = rw (e, f, g, h) refl
 
   -- performing it is its call on the tables themselves
   pub performs-call : (s : State) (c : Call) → callOf r ≡ c → performed (moveCall (s .hierarchy) c s) ≡ performed (performStep s r)

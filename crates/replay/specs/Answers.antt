@@ -10,9 +10,9 @@ use Rattle.lists.specs.Answer.{Answer, done, refused as denied, _when_, refusal
 use Rattle.replay.specs.declared.EdgesAnswer.{EdgesAnswer}
 use Rattle.replay.specs.declared.EdgesAnswer.the-variants.{Edges, Refused as EdgesRefused}
 use Rattle.replay.specs.declared.Outcome.{Outcome}
-use Rattle.replay.specs.declared.Outcome.the-variants.{Granted, Waits, Value, Stored, Left, Refused}
+use Rattle.replay.specs.declared.Outcome.the-variants.{Granted, Waits, Value, Stored, Added, Left, Refused}
 use Rattle.replay.specs.declared.Step.{Step}
-use Rattle.replay.specs.Replay.{StepAnswer, granted, waits, value, stored, left, refused, Performed, edgeTable, edgeCountOf}
+use Rattle.replay.specs.Replay.{StepAnswer, granted, waits, value, stored, added, left, refused, Performed, edgeTable, edgeCountOf}
 
 -- THE EDGE TABLE into lent places. It needs two for each edge
 abbrev pub edgesRefusal : List (List ℕ) → List ℕ → Option ℕ
@@ -43,6 +43,7 @@ stepMeaning (Granted cover) parties = granted cover
 stepMeaning Waits parties = waits
 stepMeaning (Value number) parties = value number
 stepMeaning Stored parties = stored
+stepMeaning Added parties = added
 stepMeaning (Left grants) parties = left (take grants parties)
 stepMeaning (Refused k) parties = refused k
 
@@ -52,6 +53,7 @@ outcomeOf (granted cover) = Granted cover
 outcomeOf waits = Waits
 outcomeOf (value number) = Value number
 outcomeOf stored = Stored
+outcomeOf added = Added
 outcomeOf (left parties) = Left (length parties)
 outcomeOf (refused k) = Refused k
 
@@ -61,6 +63,7 @@ partiesOf (granted cover) = replicate 32 0
 partiesOf waits = replicate 32 0
 partiesOf (value number) = replicate 32 0
 partiesOf stored = replicate 32 0
+partiesOf added = replicate 32 0
 partiesOf (left parties) = over parties (replicate 32 0)
 partiesOf (refused k) = replicate 32 0
 

@@ -17,7 +17,8 @@ use Rattle.desk.specs.declared.Desk.{Desk}
 use Rattle.locks.specs.Locks.{modeNumbered}
 use Rattle.locks.specs.Lent.{Hierarchy, lent}
 use Rattle.desk.specs.Steps.{granted as admitted, Admission, waits as queued}
-use Rattle.runs.specs.Run.{whole, Call, enter, get, put, leave, Step, Event, entered, got, stored as wrote, left as gone, State, start, Moved, move, Ran, run}
+use Rattle.runs.specs.Run.{whole, Call, enter, get, put, add, leave, Step, Event, entered, got, stored as wrote, added as summed, left as gone, State, start}
+use Rattle.runs.specs.Run.{Moved, move, Ran, run}
 
 -- the records of 16 bytes, one by one
 unfoldable pub eachRecord : ℕ → List ℕ → List (List ℕ)
@@ -71,9 +72,17 @@ putCall r = put (partyIn r) (nodeIn r) (valueIn r) whole
 abbrev pub leaveCall : List ℕ → Call
 leaveCall r = leave (partyIn r) (replicate 32 0)
 
--- by its kind: 3 enter, 4 get, 5 put, and 6 leave, the one left of those that a step can have
+-- an add record, laid out like put: lent what a put is
+abbrev pub addCall : List ℕ → Call
+addCall r = add (partyIn r) (nodeIn r) (valueIn r) whole
+
+-- by its kind: 3 enter, 4 get, 5 put, 6 leave, and 7 add, the one left of those that a step can have
 abbrev pub callOf : List ℕ → Call
-callOf r = cond (eqb (kindOf r) 3) (enterCall r) (cond (eqb (kindOf r) 4) (getCall r) (cond (eqb (kindOf r) 5) (putCall r) (leaveCall r)))
+callOf r =
+    cond (eqb (kindOf r) 3) (enterCall r)
+    (cond (eqb (kindOf r) 4) (getCall r)
+    (cond (eqb (kindOf r) 5) (putCall r)
+    (cond (eqb (kindOf r) 6) (leaveCall r) (addCall r))))
 
 -- it is lent the tables themselves
 abbrev pub stepOf : List ℕ → Step
@@ -85,6 +94,7 @@ pub data StepAnswer : Type 0 where
   waits : StepAnswer
   value : (number : ℕ) → StepAnswer
   stored : StepAnswer
+  added : StepAnswer
   left : (parties : List ℕ) → StepAnswer
   refused : (number : ℕ) → StepAnswer
 
@@ -104,6 +114,11 @@ abbrev pub putLine : Answer (Unit {0}) → StepAnswer
 putLine (done _) = stored
 putLine (denied k) = refused k
 
+-- of add
+abbrev pub addLine : Answer (Unit {0}) → StepAnswer
+addLine (done _) = added
+addLine (denied k) = refused k
+
 -- of leave
 abbrev pub leaveLine : Answer (List ℕ) → StepAnswer
 leaveLine (done parties) = left parties
@@ -114,6 +129,7 @@ abbrev pub answerIn : Event ℕ → StepAnswer
 answerIn (entered party a) = enterLine a
 answerIn (got party node a) = getLine a
 answerIn (wrote party node number a) = putLine a
+answerIn (summed party node number a) = addLine a
 answerIn (gone party a) = leaveLine a
 
 -- the hierarchy, the desk and the values between two steps

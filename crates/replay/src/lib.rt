@@ -7,24 +7,26 @@ ghost use Rattle.lists.specs.Lists.{over, one};
 ghost use Rattle.octets.specs.Writes.{overAt};
 ghost use Rattle.blocks.specs.Record.{kindOf, namesIn};
 ghost use Rattle.locks.specs.Lent.{lent};
-ghost use Rattle.desk.specs.Answers.{enterMeaning, getMeaning, putMeaning, leaveMeaning};
-ghost use Rattle.replay.specs.Replay.{recordList, sizeOf, edgeTable, edgeCountOf, enterLine, getLine, putLine, enterCall, getCall, putCall, leaveCall, stateOf, isStep, perform as performing};
+ghost use Rattle.desk.specs.Answers.{enterMeaning, getMeaning, putMeaning, addMeaning, leaveMeaning};
+ghost use Rattle.replay.specs.Replay.{recordList, sizeOf, edgeTable, edgeCountOf, enterLine, getLine, putLine, addLine, enterCall, getCall, putCall, addCall, leaveCall, stateOf, isStep, perform as performing};
 ghost use Rattle.replay.specs.Answers.{EdgesInto, edgesInto, outcomeOf, Performs};
 ghost use Rattle.replay.specs.Inner.{recordAt, edgeOf, leftOutcome, PerformsCall, PerformsAny};
 use arrivals::PARTIES;
 use blocks::RECORD;
+use desk::AddAnswer;
 use desk::Desk;
 use desk::EnterAnswer;
 use desk::GetAnswer;
 use desk::LeaveAnswer;
 use desk::PutAnswer;
 
-// What a step of a file answers, one value for the four kinds. `Left` counts the granted parties, which stand first in `Step::parties`.
+// What a step of a file answers, one value for the five kinds. `Left` counts the granted parties, which stand first in `Step::parties`.
 pub enum Outcome {
     Granted(usize),
     Waits,
     Value(u64),
     Stored,
+    Added,
     Left(usize),
     Refused(u8),
 }
@@ -183,6 +185,16 @@ fn stored(a: PutAnswer) -> Outcome
     }
 }
 
+// What add answered.
+fn added(a: AddAnswer) -> Outcome
+    ensures { λ r. ⌜ r ≡ outcomeOf (addLine (addMeaning a)) ⌝ }
+{
+    match a {
+        AddAnswer::Added => Outcome::Added,
+        AddAnswer::Refused(k) => Outcome::Refused(k),
+    }
+}
+
 // What leave answered.
 fn left(a: LeaveAnswer) -> Outcome
     ensures { λ r. ⌜ r ≡ leftOutcome (leaveMeaning a) ⌝ }
@@ -205,7 +217,8 @@ fn perform_enter(
     ensures { λ r. ⌜ PerformsAny r (lent n (now (intervals .entry)) (now (edges .entry)) «edge_count») desk (enterCall (now (bytes .entry))) ⌝ }
 {
     let party = octets::byte(bytes, 1) as usize;
-    let mode = locks::mode_when(octets::byte(bytes, 2) == 1);
+    let m = octets::byte(bytes, 2);
+    let mode = locks::mode_when(m == 1, m == 2);
     let name_count = octets::byte(bytes, 3) as usize;
     let mut names = [0u16; 255];
     let k = put_names(bytes, &mut names);
@@ -311,6 +324,32 @@ fn perform_leave(
     }
 }
 
+// An add record performed.
+fn perform_add(
+    desk: Desk,
+    n: usize,
+    intervals: &[u16],
+    edges: &[u16],
+    edge_count: usize,
+    bytes: &[u8],
+    values: &mut [u64],
+) -> Step
+    ensures { λ r. ⌜ PerformsCall r (lent n (now (intervals .entry)) (now (edges .entry)) «edge_count») desk (addCall (now (bytes .entry))) (now (values .entry)) (now (values .exit)) ⌝ }
+{
+    let party = octets::byte(bytes, 1) as usize;
+    let node = octets::byte(bytes, 2) as usize;
+    let number = octets::number8(bytes, 4);
+    let step = desk.add(n, intervals, edges, edge_count, party, node, number, values);
+    let answer = step.answer;
+    let outcome = added(answer);
+    let next = step.desk;
+    Step {
+        desk: next,
+        outcome,
+        parties: [0u8; PARTIES],
+    }
+}
+
 // Whether bytes are a record of 16 bytes that is right, and a step.
 fn is_step(bytes: &[u8]) -> bool
     ensures { λ r. ⌜ r ≡ isStep (now (bytes .entry)) ⌝ }
@@ -325,7 +364,7 @@ fn is_step(bytes: &[u8]) -> bool
 }
 
 // Any bytes performed on the desk as a record of a file: refused with 4 where they are no step, or one that is not right; else by kind, 3 enter, 4 get,
-// 5 put, 6 leave.
+// 5 put, 6 leave, 7 add.
 pub fn perform(
     desk: Desk,
     n: usize,
@@ -354,5 +393,8 @@ pub fn perform(
     if kind == 5 {
         return perform_put(desk, n, intervals, edges, edge_count, bytes, values);
     }
-    perform_leave(desk, n, intervals, edges, edge_count, bytes)
+    if kind == 6 {
+        return perform_leave(desk, n, intervals, edges, edge_count, bytes);
+    }
+    perform_add(desk, n, intervals, edges, edge_count, bytes, values)
 }

@@ -1,6 +1,6 @@
 -- What stands behind its edges in the edge table makes no difference to a step. Assumes nothing.
 use mathlib.Core.Path.{_≡_, refl, sym, ap, _∙_}
-use mathlib.Core.List.{List, []}
+use mathlib.Core.List.{List}
 use mathlib.Core.Bool.{Bool}
 use Prim.Native.Nat.{ℕ, _*_}
 use native.Mathlib.Nat.{le-refl}
@@ -18,9 +18,9 @@ use Rattle.desk.specs.declared.Desk.{Desk}
 use Rattle.locks.specs.Lent.{Hierarchy, coverIn, insideHold, lockOn}
 use Rattle.desk.specs.Desks.{stageAt}
 use Rattle.parties.specs.Sound.{soundParties}
-use Rattle.desk.specs.Steps.{putOwn, leaveOwn, enterOwn, stepChecks, valueChecks, enterUnless, enterStep}
-use Rattle.desk.specs.Steps.{nodeChecks, getUnless, getStep, putUnless, putStep, leaveUnless, leaveStep}
-use Rattle.runs.specs.Run.{lend, Call, enter, get, put, leave, State, afterEnter, afterGet, afterPut, afterLeave, moveCall}
+use Rattle.desk.specs.Steps.{getOwn, putOwn, addOwn, leaveOwn, enterOwn, stepChecks, valueChecks, enterUnless, enterStep}
+use Rattle.desk.specs.Steps.{nodeChecks, getUnless, getStep, putUnless, putStep, sum64, addStep, leaveUnless, leaveStep}
+use Rattle.runs.specs.Run.{lend, Call, enter, get, put, add, leave, State, afterEnter, afterGet, afterPut, afterAdd, afterLeave, moveCall}
 
 -- the hierarchy with just its edges in the table
 abbrev pub exact : Hierarchy → Hierarchy
@@ -44,7 +44,7 @@ hold-exact H node Out = refl
 hold-exact H node (Waiting l) = refl
 hold-exact H node (Holding l) = refl
 
--- and so do get and put of their node
+-- and so do get, put and add of their node
 values-exact : (H : Hierarchy) (d : Desk) (party node : ℕ) (values : List ℕ) (own : List Check)
     → valueChecks (exact H) d party node values own ≡ valueChecks H d party node values own
 values-exact H d party node values own =
@@ -53,17 +53,21 @@ values-exact H d party node values own =
 
 -- so each does the same
 pub call-exact : (H : Hierarchy) (c : Call) (s : State) → moveCall (exact H) c s ≡ moveCall H c s
-unfolding moveCall enterStep getStep putStep leaveStep
+unfolding moveCall enterStep getStep putStep addStep leaveStep
 call-exact H (enter party mode names nameCount) s =
     ap (λ (cs : List Check). afterEnter party s (enterUnless (refusal cs) (s .desk) party (lockOn H mode (coverIn H (take nameCount names)))))
     (checks-exact H (s .desk) party (ltb (length names) nameCount) (enterOwn H (s .desk) party names nameCount))
 call-exact H (get party node l) s =
     let values : List ℕ = lend (s .values) l in
-    ap (λ (cs : List Check). afterGet party node s (getUnless (refusal cs) (s .desk) (getD values node 0))) (values-exact H (s .desk) party node values [])
+    ap (λ (cs : List Check). afterGet party node s (getUnless (refusal cs) (s .desk) (getD values node 0))) (values-exact H (s .desk) party node values (getOwn (s .desk) party))
 call-exact H (put party node value l) s =
     let values : List ℕ = lend (s .values) l in
     ap (λ (cs : List Check). afterPut party node value s (putUnless (refusal cs) (s .desk) node value values))
     (values-exact H (s .desk) party node values (putOwn (s .desk) party))
+call-exact H (add party node number l) s =
+    let values : List ℕ = lend (s .values) l in
+    ap (λ (cs : List Check). afterAdd party node number s (putUnless (refusal cs) (s .desk) node (sum64 (getD values node 0) number) values))
+    (values-exact H (s .desk) party node values (addOwn (s .desk) party))
 call-exact H (leave party list) s =
     ap (λ (cs : List Check). afterLeave party s (leaveUnless (refusal cs) (s .desk) party list))
     (checks-exact H (s .desk) party (ltb (length list) 32) (leaveOwn (s .desk) party))

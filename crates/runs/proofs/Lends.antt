@@ -10,7 +10,7 @@ use Rattle.lists.specs.Lists.{over}
 use Rattle.lists.specs.Answer.{refusal}
 use Rattle.locks.specs.Lent.{Hierarchy, lowIn, highIn}
 use Rattle.desk.specs.declared.Desk.{Desk}
-use Rattle.desk.specs.Steps.{putOwn, valueChecks, putUnless, putStep}
+use Rattle.desk.specs.Steps.{putOwn, addOwn, valueChecks, putUnless, putStep, sum64, addStep}
 use Rattle.runs.specs.Run.{Lending, whole, part, lend, restored, Step, lentTo}
 
 -- a place of what is lent, where it is long enough
@@ -63,11 +63,15 @@ module _ (H : Hierarchy) (two-each : length (H .intervals) ≡ 2 * H .n) (x : St
   unfolding lentTo
   high-lent = lend-at (H .intervals) (x .intervals) (2 * node + 1) (omega arith) (omega arith)
 
--- A PUT leaves as many values as it was lent
+-- A PUT OR ADD leaves as many values as it was lent
+unless-length : (o : Option ℕ) (d : Desk) (node value : ℕ) (values : List ℕ) → length ((putUnless o d node value values) .values) ≡ length values
+unless-length none d node value values = length-set values node value
+unless-length (some k) d node value values = refl
+
 pub put-length : (H : Hierarchy) (d : Desk) (party node value : ℕ) (values : List ℕ) → length ((putStep H d party node value values) .values) ≡ length values
 unfolding putStep
-put-length H d party node value values = by (refusal (valueChecks H d party node values (putOwn d party)))
-  where
-    by : (o : Option ℕ) → length ((putUnless o d node value values) .values) ≡ length values
-    by none = length-set values node value
-    by (some k) = refl
+put-length H d party node value values = unless-length (refusal (valueChecks H d party node values (putOwn d party))) d node value values
+
+pub add-length : (H : Hierarchy) (d : Desk) (party node number : ℕ) (values : List ℕ) → length ((addStep H d party node number values) .values) ≡ length values
+unfolding addStep
+add-length H d party node number values = unless-length (refusal (valueChecks H d party node values (addOwn d party))) d node (sum64 (getD values node 0) number) values

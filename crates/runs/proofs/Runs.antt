@@ -2,14 +2,15 @@
 use mathlib.Core.Path.{_≡_, refl, ap, _∙_}
 use mathlib.Core.List.{List, [], _∷_}
 use Rattle.locks.specs.Lent.{Hierarchy}
-use Rattle.runs.specs.Run.{Call, enter, get, put, leave, Step, State, afterEnter, afterGet, afterPut, afterLeave, moveCall, move, alsoRan, run}
+use Rattle.runs.specs.Run.{Call, enter, get, put, add, leave, Step, State, afterEnter, afterGet, afterPut, afterAdd, afterLeave, moveCall, move, alsoRan, run}
 use Rattle.runs.specs.Over.{Between, stateOver, betweenOf, runOver}
 
 call-hierarchy : (K : Hierarchy) (c : Call) (s : State) → ((moveCall K c s) .state) .hierarchy ≡ s .hierarchy
-unfolding moveCall afterEnter afterGet afterPut afterLeave
+unfolding moveCall afterEnter afterGet afterPut afterAdd afterLeave
 call-hierarchy K (enter party mode names nameCount) s = refl
 call-hierarchy K (get party node l) s = refl
 call-hierarchy K (put party node value l) s = refl
+call-hierarchy K (add party node number l) s = refl
 call-hierarchy K (leave party list) s = refl
 
 -- one step

@@ -9,7 +9,7 @@ use Rattle.locks.specs.declared.Mode.{Mode}
 use Rattle.desk.specs.declared.Desk.{Desk}
 use Rattle.locks.specs.Lent.{Hierarchy}
 use Rattle.desk.specs.Desks.{freshDesk}
-use Rattle.desk.specs.Steps.{Admission, EnterResult, GetResult, PutResult, LeaveResult, enterStep, getStep, putStep, leaveStep}
+use Rattle.desk.specs.Steps.{Admission, EnterResult, GetResult, PutResult, LeaveResult, enterStep, getStep, putStep, addStep, leaveStep}
 
 -- what a step is lent of a table: just the table; or the first places of it, or the whole with anything behind it
 pub data Lending : Type 0 where
@@ -30,6 +30,7 @@ pub data Call : Type 0 where
   enter : (party : ℕ) (mode : Mode) (names : List ℕ) (nameCount : ℕ) → Call
   get : (party node : ℕ) (values : Lending) → Call
   put : (party node value : ℕ) (values : Lending) → Call
+  add : (party node number : ℕ) (values : Lending) → Call
   leave : (party : ℕ) (list : List ℕ) → Call
 
 -- a step of a list: its call, and what it is lent of the two tables
@@ -53,6 +54,7 @@ pub data Event (A : Type 0) : Type 0 where
   entered : (party : ℕ) → Answer Admission → Event A
   got : (party node : ℕ) → Answer A → Event A
   stored : (party node value : ℕ) → Answer (Unit {0}) → Event A
+  added : (party node number : ℕ) → Answer (Unit {0}) → Event A
   left : (party : ℕ) → (parties : Answer (List ℕ)) → Event A
 
 -- the hierarchy, the desk that the step before handed back, and the values as last left
@@ -86,6 +88,14 @@ afterPut party node value s r =
       event = stored party node value (r .answer);
     }
 
+-- after an add, likewise
+unfoldable pub afterAdd : ℕ → ℕ → ℕ → State → PutResult → Moved
+afterAdd party node number s r =
+    record {
+      state = record { hierarchy = s .hierarchy; desk = r .desk; values = restored (s .values) (r .values) };
+      event = added party node number (r .answer);
+    }
+
 -- the list that a leave writes is part of its answer
 unfoldable pub listed : List ℕ → Answer ℕ → Answer (List ℕ)
 listed bytes (done k) = done (take k bytes)
@@ -104,6 +114,7 @@ unfoldable pub moveCall : Hierarchy → Call → State → Moved
 moveCall H (enter party mode names nameCount) s = afterEnter party s (enterStep H (s .desk) party mode names nameCount)
 moveCall H (get party node l) s = afterGet party node s (getStep H (s .desk) party node (lend (s .values) l))
 moveCall H (put party node value l) s = afterPut party node value s (putStep H (s .desk) party node value (lend (s .values) l))
+moveCall H (add party node number l) s = afterAdd party node number s (addStep H (s .desk) party node number (lend (s .values) l))
 moveCall H (leave party list) s = afterLeave party s (leaveStep H (s .desk) party list)
 
 -- one step of a list

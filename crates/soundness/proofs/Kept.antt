@@ -37,10 +37,10 @@ use Rattle.desk.specs.declared.Desk.{Desk}
 use Rattle.desk.specs.Desks.{stageAt, queueOf, freshDesk}
 use Rattle.desk.specs.Sound.{soundDesk}
 use Rattle.desk.specs.Steps.{leaveOwn, enterOwn, free, grantTo, queueLast, enterRefusal, enterIf, enterUnless}
-use Rattle.desk.specs.Steps.{enterStep, getStep, putStep, afterLeaving, leaveWith, leaveRefusal, leaveUnless, leaveStep}
+use Rattle.desk.specs.Steps.{enterStep, getStep, putStep, addStep, afterLeaving, leaveWith, leaveRefusal, leaveUnless, leaveStep}
 use Rattle.desk.proofs.Facts.{step-own, step-facts}
 use Rattle.history.proofs.Facts.{sweep-length}
-use Rattle.soundness.proofs.Laws.{unchanged-get, unchanged-put}
+use Rattle.soundness.proofs.Laws.{unchanged-get, unchanged-put, unchanged-add}
 use Rattle.soundness.proofs.Orderly.{Shaped, Reads, Orderly, HeldUp, sound-reads, sound-orderly, sound-held, made-sound}
 use Rattle.soundness.proofs.Changes.{stage-same, stage-other, waits-apart, called, ended, admitted, granted, still-meets, up-set, up-last}
 
@@ -65,12 +65,15 @@ enter-shaped H d party mode names nameCount shape = by (enterRefusal H d party n
     by (some k) = shape
     by none = test (free d l)
 
--- get and put keep it
+-- get, put and add keep it
 pub get-shaped : (H : Hierarchy) (d : Desk) (party node : ℕ) (values : List ℕ) → Shaped d → Shaped ((getStep H d party node values) .desk)
 get-shaped H d party node values shape = rw (unchanged-get H d party node values) shape
 
 pub put-shaped : (H : Hierarchy) (d : Desk) (party node value : ℕ) (values : List ℕ) → Shaped d → Shaped ((putStep H d party node value values) .desk)
 put-shaped H d party node value values shape = rw (unchanged-put H d party node value values) shape
+
+pub add-shaped : (H : Hierarchy) (d : Desk) (party node number : ℕ) (values : List ℕ) → Shaped d → Shaped ((addStep H d party node number values) .desk)
+add-shaped H d party node number values shape = rw (unchanged-add H d party node number values) shape
 
 -- leave keeps it
 pub leave-shaped : (H : Hierarchy) (d : Desk) (party : ℕ) (list : List ℕ) → Shaped d → Shaped ((leaveStep H d party list) .desk)
@@ -181,10 +184,15 @@ enter-sound H d party mode names nameCount shape sound = by (enterRefusal H d pa
 pub get-sound : (H : Hierarchy) (d : Desk) (party node : ℕ) (values : List ℕ) → soundDesk H d ≡ true → soundDesk H ((getStep H d party node values) .desk) ≡ true
 get-sound H d party node values sound = rw (unchanged-get H d party node values) sound
 
--- and so does put
+-- and so do put
 pub put-sound : (H : Hierarchy) (d : Desk) (party node value : ℕ) (values : List ℕ) → soundDesk H d ≡ true
     → soundDesk H ((putStep H d party node value values) .desk) ≡ true
 put-sound H d party node value values sound = rw (unchanged-put H d party node value values) sound
+
+-- and add
+pub add-sound : (H : Hierarchy) (d : Desk) (party node number : ℕ) (values : List ℕ) → soundDesk H d ≡ true
+    → soundDesk H ((addStep H d party node number values) .desk) ≡ true
+add-sound H d party node number values sound = rw (unchanged-add H d party node number values) sound
 
 -- LEAVE'S PASS: the parties that stay and those to come are the list, and those that stay are held up
 record Going (H : Hierarchy) (s : Sweep) (after : List ℕ) : Type 0 where

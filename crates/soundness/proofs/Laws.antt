@@ -1,6 +1,6 @@
 -- THEOREMS about the desk: a refused step changes nothing, and a fresh desk is sound. Assumes nothing.
 use mathlib.Core.Path.{_≡_, refl}
-use mathlib.Core.List.{List, []}
+use mathlib.Core.List.{List}
 use mathlib.Core.Bool.{Bool, true, false}
 use mathlib.Core.Option.{Option, none, some}
 use Prim.Native.Nat.{ℕ}
@@ -15,7 +15,8 @@ use Rattle.desk.specs.declared.Desk.{Desk}
 use Rattle.desk.specs.Desks.{freshDesk}
 use Rattle.parties.specs.Sound.{soundParties}
 use Rattle.desk.specs.Sound.{soundDesk}
-use Rattle.desk.specs.Steps.{putOwn, free, enterRefusal, enterIf, enterUnless, enterStep, valueChecks, getUnless, getStep, putUnless, putStep, leaveRefusal, leaveUnless, leaveStep}
+use Rattle.desk.specs.Steps.{getOwn, putOwn, addOwn, free, enterRefusal, enterIf, enterUnless, enterStep, valueChecks, getUnless, getStep, putUnless, putStep, sum64, addStep}
+use Rattle.desk.specs.Steps.{leaveRefusal, leaveUnless, leaveStep}
 
 -- A REFUSED STEP CHANGES NOTHING: the desk handed back is the one given, and so is every buffer
 pub refused-enter : (H : Hierarchy) (d : Desk) (party : ℕ) (mode : Mode) (names : List ℕ) (nameCount k : ℕ)
@@ -34,29 +35,41 @@ refused-enter H d party mode names nameCount k e = by (enterRefusal H d party na
 -- get changes nothing in any case
 pub unchanged-get : (H : Hierarchy) (d : Desk) (party node : ℕ) (values : List ℕ) → (getStep H d party node values) .desk ≡ d
 unfolding getStep
-unchanged-get H d party node values = by (refusal (valueChecks H d party node values [])) (getD values node 0)
+unchanged-get H d party node values = by (refusal (valueChecks H d party node values (getOwn d party))) (getD values node 0)
   where
     by : (o : Option ℕ) (x : ℕ) → (getUnless o d x) .desk ≡ d
     by (some j) x = refl
     by none x = refl
 
--- put changes no desk in any case
+-- put and add change no desk in any case, and where they are refused no value
+module _ (d : Desk) (node value : ℕ) (values : List ℕ) where
+  unless-same : (o : Option ℕ) → (putUnless o d node value values) .desk ≡ d
+  unless-same (some j) = refl
+  unless-same none = refl
+
+  unless-refused : (k : ℕ) (o : Option ℕ) → (putUnless o d node value values) .answer ≡ refused k → (putUnless o d node value values) .values ≡ values
+  unless-refused k (some j) e = refl
+  unless-refused k none e = not-both true refl cc
+
 pub unchanged-put : (H : Hierarchy) (d : Desk) (party node value : ℕ) (values : List ℕ) → (putStep H d party node value values) .desk ≡ d
 unfolding putStep
-unchanged-put H d party node value values = by (refusal (valueChecks H d party node values (putOwn d party)))
-  where
-    by : (o : Option ℕ) → (putUnless o d node value values) .desk ≡ d
-    by (some j) = refl
-    by none = refl
+unchanged-put H d party node value values = unless-same d node value values (refusal (valueChecks H d party node values (putOwn d party)))
 
 pub refused-put : (H : Hierarchy) (d : Desk) (party node value k : ℕ) (values : List ℕ) → (putStep H d party node value values) .answer ≡ refused k
     → (putStep H d party node value values) .values ≡ values
 unfolding putStep
-refused-put H d party node value k values e = by (refusal (valueChecks H d party node values (putOwn d party))) e
-  where
-    by : (o : Option ℕ) → (putUnless o d node value values) .answer ≡ refused k → (putUnless o d node value values) .values ≡ values
-    by (some j) e = refl
-    by none e = not-both true refl cc
+refused-put H d party node value k values e = unless-refused d node value values k (refusal (valueChecks H d party node values (putOwn d party))) e
+
+pub unchanged-add : (H : Hierarchy) (d : Desk) (party node number : ℕ) (values : List ℕ) → (addStep H d party node number values) .desk ≡ d
+unfolding addStep
+unchanged-add H d party node number values =
+    unless-same d node (sum64 (getD values node 0) number) values (refusal (valueChecks H d party node values (addOwn d party)))
+
+pub refused-add : (H : Hierarchy) (d : Desk) (party node number k : ℕ) (values : List ℕ) → (addStep H d party node number values) .answer ≡ refused k
+    → (addStep H d party node number values) .values ≡ values
+unfolding addStep
+refused-add H d party node number k values e =
+    unless-refused d node (sum64 (getD values node 0) number) values k (refusal (valueChecks H d party node values (addOwn d party))) e
 
 pub refused-leave : (H : Hierarchy) (d : Desk) (party k : ℕ) (list : List ℕ) → (leaveStep H d party list) .answer ≡ refused k
     → ((leaveStep H d party list) .desk ≡ d) × ((leaveStep H d party list) .list ≡ list)

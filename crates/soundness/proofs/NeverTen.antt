@@ -28,10 +28,10 @@ use Rattle.locks.specs.Stages.{ofLock}
 use Rattle.parties.specs.Sound.{listsParties, listsOnce, listsWaiting, intervalsReal, holdersApart, waitersHeldUp, soundParties}
 use Rattle.desk.specs.Desks.{freshDesk, stageAt}
 use Rattle.desk.specs.Sound.{soundDesk}
-use Rattle.desk.specs.Steps.{putOwn, leaveOwn, enterOwn, stepChecks, enterRefusal, free, enterIf, enterUnless, enterStep}
-use Rattle.desk.specs.Steps.{nodeChecks, valueChecks, getUnless, getStep, putUnless, putStep, leaveRefusal, leaveUnless, leaveStep}
-use Rattle.runs.specs.Run.{lend, Call, enter, get, put, leave, Step, lentTo, State, start, Moved}
-use Rattle.runs.specs.Run.{afterEnter, afterGet, afterPut, listed, afterLeave, moveCall, move, Ran, alsoRan, run}
+use Rattle.desk.specs.Steps.{getOwn, putOwn, addOwn, leaveOwn, enterOwn, stepChecks, enterRefusal, free, enterIf, enterUnless, enterStep}
+use Rattle.desk.specs.Steps.{nodeChecks, valueChecks, getUnless, getStep, putUnless, putStep, sum64, addStep, leaveRefusal, leaveUnless, leaveStep}
+use Rattle.runs.specs.Run.{lend, Call, enter, get, put, add, leave, Step, lentTo, State, start, Moved}
+use Rattle.runs.specs.Run.{afterEnter, afterGet, afterPut, afterAdd, listed, afterLeave, moveCall, move, Ran, alsoRan, run}
 use Rattle.runs.specs.Over.{startOver, runOver}
 use Rattle.runs.proofs.Lends.{low-lent, high-lent}
 use Rattle.runs.proofs.Runs.{run-hierarchy, run-over}
@@ -40,9 +40,9 @@ use Rattle.history.specs.Results.{Made, AllMeet, toldByAll, lastDesk}
 use Rattle.history.proofs.Serializable.{built-two-each}
 use Rattle.history.proofs.Results.{stepsFor, results-run}
 use Rattle.soundness.specs.Refused.{isRefusal, refusedWith}
-use Rattle.soundness.proofs.Laws.{unchanged-get, unchanged-put, fresh-sound}
+use Rattle.soundness.proofs.Laws.{unchanged-get, unchanged-put, unchanged-add, fresh-sound}
 use Rattle.soundness.proofs.Orderly.{Shaped}
-use Rattle.soundness.proofs.Kept.{fresh-shaped, enter-shaped, get-shaped, put-shaped, leave-shaped, enter-sound, leave-sound}
+use Rattle.soundness.proofs.Kept.{fresh-shaped, enter-shaped, get-shaped, put-shaped, add-shaped, leave-shaped, enter-sound, leave-sound}
 
 -- TWO HIERARCHIES that agree on n and on the intervals of the nodes
 record Agree (K H : Hierarchy) : Type 0 where
@@ -195,7 +195,7 @@ module _ (x : Step) (s : State) (f : Fine s) where
           (none-of (intervalWrong K) (H .n) (λ i h. wrong-agrees K H (agree e) i h ∙ built-right H (f .built) i h))
           (ap not (sound-agrees K H (agree e) d ∙ f .sound))
 
-  -- get and put alike
+  -- get, put and add alike
   value-not-ten : (party node : ℕ) (values : List ℕ) (own : List Check) → holdsWith 10 own ≡ false → isNumber 10 (refusal (valueChecks K d party node values own)) ≡ false
   unfolding any
   value-not-ten party node values own o = not-ten party (ltb (length values) (K .n)) (nodeChecks K d party node own) o
@@ -207,9 +207,9 @@ module _ (x : Step) (s : State) (f : Fine s) where
       (λ e. rw (same e) (f .sound))
       (λ e. sym (sound-agrees K H (agree e) new) ∙ step (sound-agrees K H (agree e) d ∙ f .sound))
 
-  -- each of the four
+  -- each of the five
   call-stepped : (c : Call) → Stepped (moveCall K c s)
-  unfolding moveCall afterEnter afterGet afterPut afterLeave enterStep getStep putStep leaveStep any
+  unfolding moveCall afterEnter afterGet afterPut afterAdd afterLeave enterStep getStep putStep addStep leaveStep any
   call-stepped (enter party mode names nameCount) =
       let l : Lock = lockOn K mode (coverIn K (take nameCount names)) in
       let own : List Check = enterOwn K d party names nameCount in
@@ -223,9 +223,10 @@ module _ (x : Step) (s : State) (f : Fine s) where
       }
   call-stepped (get party node l) =
       let values : List ℕ = lend (s .values) l in
+      let own : List Check = getOwn d party in
       record {
         fine = record { built = f .built; shaped = get-shaped K d party node values (f .shaped); sound = rw (unchanged-get K d party node values) (f .sound) };
-        event = get-number d 10 (getD values node 0) (refusal (valueChecks K d party node values [])) ∙ value-not-ten party node values [] refl;
+        event = get-number d 10 (getD values node 0) (refusal (valueChecks K d party node values own)) ∙ value-not-ten party node values own refl;
       }
   call-stepped (put party node value l) =
       let values : List ℕ = lend (s .values) l in
@@ -233,6 +234,13 @@ module _ (x : Step) (s : State) (f : Fine s) where
       record {
         fine = record { built = f .built; shaped = put-shaped K d party node value values (f .shaped); sound = rw (unchanged-put K d party node value values) (f .sound) };
         event = put-number d 10 node value values (refusal (valueChecks K d party node values own)) ∙ value-not-ten party node values own refl;
+      }
+  call-stepped (add party node number l) =
+      let values : List ℕ = lend (s .values) l in
+      let own : List Check = addOwn d party in
+      record {
+        fine = record { built = f .built; shaped = add-shaped K d party node number values (f .shaped); sound = rw (unchanged-add K d party node number values) (f .sound) };
+        event = put-number d 10 node (sum64 (getD values node 0) number) values (refusal (valueChecks K d party node values own)) ∙ value-not-ten party node values own refl;
       }
   call-stepped (leave party list) =
       let own : List Check = leaveOwn d party in

@@ -3,7 +3,7 @@ use mathlib.Core.Bool.{Bool, false}
 use Prim.Native.Nat.{ℕ}
 use lib.Dec.{eqb}
 use Rattle.lists.specs.Answer.{Answer, done, refused}
-use Rattle.runs.specs.Run.{Event, entered, got, stored, left}
+use Rattle.runs.specs.Run.{Event, entered, got, stored, added, left}
 
 -- the answer is the refusal k
 abbrev pub isRefusal : {A : Type 0} → ℕ → Answer A → Bool
@@ -15,4 +15,5 @@ abbrev pub refusedWith : ℕ → Event ℕ → Bool
 refusedWith k (entered party a) = isRefusal k a
 refusedWith k (got party node a) = isRefusal k a
 refusedWith k (stored party node value a) = isRefusal k a
+refusedWith k (added party node number a) = isRefusal k a
 refusedWith k (left party a) = isRefusal k a

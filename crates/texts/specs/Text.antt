@@ -3,7 +3,7 @@ use mathlib.Core.Bool.{cond}
 use mathlib.Core.List.{List, [], _∷_, _++_}
 use Prim.Native.Nat.{ℕ, zero, suc, _+_, _/_, _%_}
 use lib.Dec.{ltb}
-use Rattle.replay.specs.Replay.{StepAnswer, granted, waits, value, stored, left, refused}
+use Rattle.replay.specs.Replay.{StepAnswer, granted, waits, value, stored, added, left, refused}
 
 -- the decimal digits of n, the most significant first, at most as many as the first number says
 unfoldable pub decimalOf : ℕ → ℕ → List ℕ
@@ -51,6 +51,10 @@ valueWord = 118 ∷ 97 ∷ 108 ∷ 117 ∷ 101 ∷ 32 ∷ []
 abbrev pub storedWord : List ℕ
 storedWord = 115 ∷ 116 ∷ 111 ∷ 114 ∷ 101 ∷ 100 ∷ []
 
+-- `added`
+abbrev pub addedWord : List ℕ
+addedWord = 97 ∷ 100 ∷ 100 ∷ 101 ∷ 100 ∷ []
+
 -- `left`
 abbrev pub leftWord : List ℕ
 leftWord = 108 ∷ 101 ∷ 102 ∷ 116 ∷ []
@@ -65,5 +69,6 @@ answerText (granted cover) = grantedWord ++ decimal cover
 answerText waits = waitsWord
 answerText (value number) = valueWord ++ decimal number
 answerText stored = storedWord
+answerText added = addedWord
 answerText (left parties) = leftWord ++ spaced parties
 answerText (refused number) = refusedWord ++ decimal number

@@ -91,6 +91,7 @@ fn put_answer(outcome: Outcome, parties: &[u8], at: usize, text: &mut [u8]) -> u
         Outcome::Waits => put_bytes(b"waits", at, text),
         Outcome::Value(v) => put_word_number(b"value ", v, at, text),
         Outcome::Stored => put_bytes(b"stored", at, text),
+        Outcome::Added => put_bytes(b"added", at, text),
         Outcome::Left(count) => put_left(parties, count, at, text),
         Outcome::Refused(k) => put_word_number(b"refused ", k as u64, at, text),
     }

@@ -3,15 +3,15 @@
 -- What the terms mean is in the definitions, crates/*/specs; what each function does is its contract, in crates/*/src, where demand 1 is carried: no public
 -- function has a `requires`, and each result is equated with a definition. Assumes nothing.
 use mathlib.Core.Path.{_≡_, refl, sym, ap, _∙_}
-use mathlib.Core.Logic.{_⊎_}
+use mathlib.Core.Logic.{_⊎_, inl, inr}
 use mathlib.Core.List.{List, [], _∷_, _++_, map}
-use mathlib.Core.Bool.{Bool, true, false, cond}
+use mathlib.Core.Bool.{Bool, true, false, cond, and-false}
 use mathlib.Core.Option.{none}
-use Prim.Native.Nat.{ℕ, zero, suc, _*_, _≤_, _<_, min, max}
+use Prim.Native.Nat.{ℕ, zero, suc, _+_, _*_, _%_, _^_, _≤_, _<_, min, max}
 use native.Mathlib.Omega.{arith}
 use lib.Dec.{eqb, ltb}
-use borrow.Author.Tests.{lt-ltb, ne-eqb}
-use lib.ListN.{length, getD, take, replicate}
+use borrow.Author.Tests.{lt-ltb, le-leb, ne-eqb, not-false}
+use lib.ListN.{length, getD, set, take, replicate}
 use Rattle.lists.specs.Lists.{every, any, count, sum, over, Below}
 use Rattle.lists.specs.Answer.{done, refused}
 use Rattle.hierarchy.specs.Hierarchy.{edgesOf, Edge, Reach, reach, Legal}
@@ -22,19 +22,22 @@ use Rattle.intervals.specs.declared.Interval.{Interval}
 use Rattle.intervals.specs.Cover.{lowAt, highAt, intervalAt, callInterval, contains, width, closest, coverOf}
 use Rattle.blocks.specs.File.{wholeBlocks, readFile, writeFile}
 use Rattle.locks.specs.declared.Mode.{Mode}
+use Rattle.locks.specs.declared.Mode.the-variants.{Reading, Writing, Adding}
+use Rattle.locks.specs.declared.Lock.{Lock}
+use Rattle.locks.specs.Locks.{compatible, share, conflict}
 use Rattle.locks.specs.declared.Stage.the-variants.{Waiting, Holding}
 use Rattle.locks.specs.Lent.{Hierarchy, lent, lowIn, highIn, coverIn, tablesShort, lockOn}
 use Rattle.grants.specs.Grants.{noGrants, countGrants}
 use Rattle.desk.specs.declared.Desk.{Desk}
 use Rattle.desk.specs.Desks.{freshDesk, stageAt}
 use Rattle.desk.specs.Sound.{soundDesk}
-use Rattle.desk.specs.Steps.{granted, enterRefusal, enterStep, getStep, putStep, leaveStep}
+use Rattle.desk.specs.Steps.{granted, enterRefusal, enterStep, getStep, putStep, addStep, leaveStep}
 use Rattle.runs.specs.Run.{Step, Event, State, start, Ran, run}
 use Rattle.runs.specs.Over.{startOver, runOver}
 use Rattle.history.specs.History.{history, grantedIn, bareEvent, opsIn, countedFrom, serialFinds, serialLeaves}
 use Rattle.history.specs.Serial.{Built, SerialSteps}
-use Rattle.desk.specs.Answers.{Enters, Gets, Puts, Leaves}
-use Rattle.history.specs.Results.{Result, enter, get, put, leave, Made, Meets, deskFrom, valuesFrom, AllMeet, toldByAll, lastDesk, lastValues}
+use Rattle.desk.specs.Answers.{Enters, Gets, Puts, Adds, Leaves}
+use Rattle.history.specs.Results.{Result, enter, get, put, add, leave, Made, Meets, deskFrom, valuesFrom, AllMeet, toldByAll, lastDesk, lastValues}
 use Rattle.soundness.specs.Refused.{refusedWith}
 use Rattle.file_laws.specs.Files.{eventsOf}
 use Rattle.replay.specs.Replay.{waits, stored, left, FileRun, granted as admitted, refused as denied, recordList, stepRecords, sizeOf, edgeTable, edgeCountOf, answersOf}
@@ -59,6 +62,7 @@ use Rattle.runs.proofs.Runs as ran-laws
 use Rattle.history.proofs.Serializable as serial
 use Rattle.history.proofs.Results as results
 use Rattle.history.proofs.Grants as counted
+use Rattle.history.proofs.Modes as modes
 use Rattle.grants.proofs.Counts as sum-laws
 use Rattle.file_laws.proofs.Laws as files
 use Rattle.soundness.proofs.Laws as unchanged
@@ -97,6 +101,15 @@ unchanged-put = unchanged.unchanged-put
 refused-put : (H : Hierarchy) (d : Desk) (party node value k : ℕ) (values : List ℕ) → (putStep H d party node value values) .answer ≡ refused k
     → (putStep H d party node value values) .values ≡ values
 refused-put = unchanged.refused-put
+
+-- nor does add,
+unchanged-add : (H : Hierarchy) (d : Desk) (party node number : ℕ) (values : List ℕ) → (addStep H d party node number values) .desk ≡ d
+unchanged-add = unchanged.unchanged-add
+
+-- and refused it leaves the values
+refused-add : (H : Hierarchy) (d : Desk) (party node number k : ℕ) (values : List ℕ) → (addStep H d party node number values) .answer ≡ refused k
+    → (addStep H d party node number values) .values ≡ values
+refused-add = unchanged.refused-add
 
 -- of leave, the desk and the lent list
 refused-leave : (H : Hierarchy) (d : Desk) (party k : ℕ) (list : List ℕ) → (leaveStep H d party list) .answer ≡ refused k
@@ -275,7 +288,7 @@ program-listing file records edges places text n count total l₁ l₂ l₃ long
     bytes long
 
 -- DEMAND 3. What it claims of events, from these values at the start to those after: the values after are those after performing the book's row; the value
--- answered by each get is what that same get finds; no get or put that was not refused is missing from the row; and the row is in the order of granting
+-- answered by each get is what that same get finds; no get, put or add that was not refused is missing from the row; and the row is in the order of granting
 abbrev Claims : List ℕ → List (Event ℕ) → List ℕ → Type 0
 Claims values events after =
     let row = history (map bareEvent events) in
@@ -322,11 +335,12 @@ run-hierarchy = ran-laws.run-hierarchy
 abbrev Lent : List ℕ → List ℕ → Type 0
 Lent table buffer = (length buffer < length table) ⊎ (take (length table) buffer ≡ table)
 
--- the result of a call meets the contract of its method, on a hierarchy as lent, a desk, and values of which get and put are lent
+-- the result of a call meets the contract of its method, on a hierarchy as lent, a desk, and values of which get, put and add are lent
 abbrev Contract : Hierarchy → Desk → List ℕ → Result → Type 0
 Contract K d values (enter party mode names nameCount r) = Enters r (enterStep K d party mode names nameCount)
 Contract K d values (get party node buffer r) = Lent values buffer × Gets r (getStep K d party node buffer)
 Contract K d values (put party node value buffer r after) = Lent values buffer × Puts r after (putStep K d party node value buffer)
+Contract K d values (add party node number buffer r after) = Lent values buffer × Adds r after (addStep K d party node number buffer)
 Contract K d values (leave party list r after) = Leaves r after (leaveStep K d party list)
 
 -- each does, on the desk that the one before handed back and the values as last left, over one hierarchy
@@ -342,6 +356,7 @@ met : (K : Hierarchy) (d : Desk) (values : List ℕ) (r : Result) → Contract K
 met K d values (enter party mode names nameCount r) c = c
 met K d values (get party node buffer r) c = c
 met K d values (put party node value buffer r after) c = c
+met K d values (add party node number buffer r after) c = c
 met K d values (leave party list r after) c = c
 
 all-met : (H : Hierarchy) (d : Desk) (values : List ℕ) (made : List Made) → Contracts H d values made → AllMeet H d values made
@@ -355,6 +370,7 @@ met-back : (K : Hierarchy) (d : Desk) (values : List ℕ) (r : Result) → Meets
 met-back K d values (enter party mode names nameCount r) c = c
 met-back K d values (get party node buffer r) c = c
 met-back K d values (put party node value buffer r after) c = c
+met-back K d values (add party node number buffer r after) c = c
 met-back K d values (leave party list r after) c = c
 
 all-back : (H : Hierarchy) (d : Desk) (values : List ℕ) (made : List Made) → AllMeet H d values made → Contracts H d values made
@@ -383,6 +399,11 @@ results-demand-3 H places scratch b made c =
 short-put : (K : Hierarchy) (d : Desk) (party node value : ℕ) (buffer : List ℕ) → length buffer < K .n
     → putStep K d party node value buffer ≡ record { desk = d; values = buffer; answer = refused 1 }
 short-put K d party node value buffer h = results.short-put K d party node value buffer (results.or-second (tablesShort K) (ltb (length buffer) (K .n)) (lt-ltb (length buffer) (K .n) h))
+
+-- nor does an add
+short-add : (K : Hierarchy) (d : Desk) (party node number : ℕ) (buffer : List ℕ) → length buffer < K .n
+    → addStep K d party node number buffer ≡ record { desk = d; values = buffer; answer = refused 1 }
+short-add K d party node number buffer h = results.short-add K d party node number buffer (results.or-second (tablesShort K) (ltb (length buffer) (K .n)) (lt-ltb (length buffer) (K .n) h))
 
 -- there are such lists: each run is what some list of calls gives whose results meet the contracts
 run-made : (H : Hierarchy) (values : List ℕ) → length values ≡ H .n → (steps : List Step) → let ran = run steps (start H values) in
@@ -414,10 +435,15 @@ enter-sound H d party mode names nameCount e q = kept.enter-sound H d party mode
 get-sound : (H : Hierarchy) (d : Desk) (party node : ℕ) (values : List ℕ) → soundDesk H d ≡ true → soundDesk H ((getStep H d party node values) .desk) ≡ true
 get-sound = kept.get-sound
 
--- put
+-- put,
 put-sound : (H : Hierarchy) (d : Desk) (party node value : ℕ) (values : List ℕ) → soundDesk H d ≡ true
     → soundDesk H ((putStep H d party node value values) .desk) ≡ true
 put-sound = kept.put-sound
+
+-- add
+add-sound : (H : Hierarchy) (d : Desk) (party node number : ℕ) (values : List ℕ) → soundDesk H d ≡ true
+    → soundDesk H ((addStep H d party node number values) .desk) ≡ true
+add-sound = kept.add-sound
 
 -- and leave
 leave-sound : (H : Hierarchy) (d : Desk) (party : ℕ) (list : List ℕ) → length (d .entries) ≡ 32 → length (d .queue) ≡ 32
@@ -563,6 +589,52 @@ party-lines party (zero ∷ grants) = party-lines (suc party) grants
 party-lines party (suc count ∷ grants) =
     ap (λ (b : Bool). cond b [] (partyLine party (suc count)) ++ partyLines (suc party) grants) (ne-eqb (suc count) 0 (λ e. omega arith))
     ∙ ap (λ (more : List ℕ). partyLine party (suc count) ++ more) (party-lines (suc party) grants)
+
+-- 02, POINT 5. VISITS THAT ONLY ADD. Two visits whose intervals share a number conflict but where both are reading or both are adding,
+together : (a b : Lock) → a .low ≤ b .high → b .low ≤ a .high → conflict a b ≡ false
+    → ((a .mode ≡ Reading) × (b .mode ≡ Reading)) ⊎ ((a .mode ≡ Adding) × (b .mode ≡ Adding))
+together a b h k c =
+    let met : compatible (a .mode) (b .mode) ≡ true = not-false _ (rw (le-leb (a .low) (b .high) h, le-leb (b .low) (a .high) k) at c) in
+    modes.together (a .mode) (b .mode) met
+
+-- and visits that do never conflict
+together-free : (a b : Lock) → ((a .mode ≡ Reading) × (b .mode ≡ Reading)) ⊎ ((a .mode ≡ Adding) × (b .mode ≡ Adding)) → conflict a b ≡ false
+together-free a b (inl (p, q)) = rw (p, q) (and-false (share a b))
+together-free a b (inr (p, q)) = rw (p, q) (and-false (share a b))
+
+-- the party holds, in a mode that P holds of
+abbrev HoldsIn : Desk → ℕ → (Mode → Type 0) → Type 0
+HoldsIn d party P = (l : Lock) × (stageAt d party ≡ Holding l) × P (l .mode)
+
+-- a get that is not refused is in a visit that isn't adding,
+get-possible : (H : Hierarchy) (d : Desk) (party node : ℕ) (values : List ℕ) (v : ℕ) → (getStep H d party node values) .answer ≡ done v
+    → HoldsIn d party (λ m. m ≡ Adding → ⊥)
+get-possible = modes.get-possible
+
+-- a put in a writing one,
+put-possible : (H : Hierarchy) (d : Desk) (party node : ℕ) (values : List ℕ) (value : ℕ) → (putStep H d party node value values) .answer ≡ done tt
+    → HoldsIn d party (λ m. m ≡ Writing)
+put-possible = modes.put-possible
+
+-- an add in an adding one,
+add-possible : (H : Hierarchy) (d : Desk) (party node : ℕ) (values : List ℕ) (number : ℕ) → (addStep H d party node number values) .answer ≡ done tt
+    → HoldsIn d party (λ m. m ≡ Adding)
+add-possible = modes.add-possible
+
+-- and it leaves at its node the value and the number added, modulo 2 to the 64, and every other value
+add-sum : (H : Hierarchy) (d : Desk) (party node : ℕ) (values : List ℕ) (number : ℕ) → (addStep H d party node number values) .answer ≡ done tt
+    → (addStep H d party node number values) .values ≡ set values node ((getD values node 0 + number) % 2 ^ 64)
+add-sum = modes.add-sum
+
+-- two adds, neither refused, of any parties at any nodes: in either order both are done, and leave the same
+adds-either : (H : Hierarchy) (d : Desk) (p q r s x y : ℕ) (values : List ℕ)
+    → (addStep H d p r x values) .answer ≡ done tt → (addStep H d q s y values) .answer ≡ done tt
+    → let first = addStep H d p r x values in let second = addStep H d q s y values in
+    ((addStep H d q s y (first .values)) .answer ≡ done tt) × ((addStep H d p r x (second .values)) .answer ≡ done tt)
+    × ((addStep H d q s y (first .values)) .values ≡ (addStep H d p r x (second .values)) .values)
+adds-either = modes.adds-either
+
+-- demand 3 above has adds in its lists: the book notes them, and performing them adds (`noted`, `leaves`, history/specs/History)
 
 -- THE STARRED CASES, with the papers' figures, those of {8}, of the ninth case and of the listing as document 02's points 1 and 4 have them: each passes, by computation. Table T and
 -- the table of the ninth case

@@ -7,7 +7,7 @@ use Rattle.desk_cases.proofs.run.Statement.{statement}
 use Rattle.desk_cases.proofs.run.Tie as tie
 
 abbrev Inv-loop : tie.InvT-loop
-Inv-loop text desk₀ values₀ at₀ t7 desk values at = 10 ≡ length values
+Inv-loop text desk₀ values₀ at₀ t7 desk values at = 257 ≡ length values
 
 abbrev μ-loop : tie.MeasureT-loop
 μ-loop text desk₀ values₀ at₀ t7 desk values at = length text - at

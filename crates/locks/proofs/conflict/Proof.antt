@@ -11,11 +11,11 @@ returns c = simp (lt-leb _ _ (c .if1 .taken))
 returns-2 : tie.Need-returns-2
 returns-2 c = simp (le-leb _ _ (c .before .before .before .if1 .left), lt-leb _ _ (c .if2 .taken))
 
-both-reading-requires : tie.Need-both-reading-requires
-both-reading-requires c κs = search needs
+compatible-requires : tie.Need-compatible-requires
+compatible-requires c κs = search needs
 
 returns-3 : tie.Need-returns-3
-returns-3 c = simp (le-leb _ _ (c .before .before .before .before .if1 .left), le-leb _ _ (c .before .if2 .left), sym (c .both-reading .ensures))
+returns-3 c = simp (le-leb _ _ (c .before .before .before .before .if1 .left), le-leb _ _ (c .before .if2 .left), sym (c .compatible .ensures))
 
 pub conflict-spec : {M : Type 1} → statement M
-conflict-spec = tie.close (tie.spec returns returns-2 both-reading-requires returns-3)
+conflict-spec = tie.close (tie.spec returns returns-2 compatible-requires returns-3)

@@ -6,11 +6,11 @@ use Rattle.locks.proofs.Stages.{hold-bounds}
 use Rattle.locks.proofs.lock_numbered.Statement.{statement}
 use Rattle.locks.proofs.lock_numbered.Tie as tie
 
-cast-t6 : tie.Need-cast-t6
-cast-t6 c = let s = c .before in omega (arith, hold-bounds (s .args .m) (s .args .low) (s .args .high) (s .pre))
-
 cast-t7 : tie.Need-cast-t7
 cast-t7 c = let s = c .before in omega (arith, hold-bounds (s .args .m) (s .args .low) (s .args .high) (s .pre))
+
+cast-t8 : tie.Need-cast-t8
+cast-t8 c = let s = c .before in omega (arith, hold-bounds (s .args .m) (s .args .low) (s .args .high) (s .pre))
 
 returns : tie.Need-returns
 returns c = rw (c .mode-when .ensures) refl
@@ -20,6 +20,6 @@ lock-numbered-spec =
     tie.close
     (tie.spec
     (λ c κs. search needs)
-    cast-t6
     cast-t7
+    cast-t8
     returns)

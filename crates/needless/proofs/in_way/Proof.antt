@@ -5,7 +5,7 @@ use Rattle.needless.proofs.in_way.Statement.{statement}
 use Rattle.needless.proofs.in_way.Tie as tie
 
 returns : tie.Need-returns
-returns c = rw (c .before .before .is-here .ensures, c .before .both-reading .ensures, c .before .before .before .mode-of .ensures, c .meets .ensures) refl
+returns c = rw (c .before .before .is-here .ensures, c .before .compatible .ensures, c .before .before .before .mode-of .ensures, c .meets .ensures) refl
 
 pub in-way-spec : {M : Type 1} → statement M
 in-way-spec =

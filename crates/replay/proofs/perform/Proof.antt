@@ -14,7 +14,7 @@ use Rattle.replay.specs.declared.Step.{Step}
 use Rattle.replay.specs.Replay.{callOf, stateOf, isStep, perform}
 use Rattle.replay.specs.Answers.{Performs}
 use Rattle.replay.specs.Inner.{PerformsCall}
-use Rattle.replay.proofs.Outcomes.{call-3, call-4, call-5, call-6, performs-call, performs-none, performs-some}
+use Rattle.replay.proofs.Outcomes.{call-3, call-4, call-5, call-6, call-7, performs-call, performs-none, performs-some}
 use Rattle.replay.proofs.perform.Statement.{statement}
 use Rattle.replay.proofs.perform.Tie as tie
 
@@ -72,14 +72,27 @@ returns-4 c =
 returns-5 : tie.Need-returns-5
 returns-5 c =
     let f = c .before in
-    let b = f .before .before .before in
+    let b = f .before .before .before .before in
     let s = b .before .before in
     let z = s .before .before .before .before .before .args in
     by-call (lent (z .n) (z .intervals .now) (z .edges .now) (z .edge-count)) (z .desk) (z .values .now) (z .bytes .now) (z .values .now) (c .perform-leave .result) _
     (sym (s .is-step .ensures) ∙ not-false _ (b .before .if1 .left))
-    (call-6 (z .bytes .now) (is-not 3 (b .byte .ensures) (f .before .before .if2 .left)) (is-not 4 (b .byte .ensures) (f .before .if3 .left))
-    (is-not 5 (b .byte .ensures) (f .if4 .left)))
+    (call-6 (z .bytes .now) (is-not 3 (b .byte .ensures) (f .before .before .before .if2 .left)) (is-not 4 (b .byte .ensures) (f .before .before .if3 .left))
+    (is-not 5 (b .byte .ensures) (f .before .if4 .left)) (is 6 (b .byte .ensures) (f .if5 .taken)))
     (c .perform-leave .ensures (z .values .now))
+
+returns-6 : tie.Need-returns-6
+returns-6 c =
+    let p = c .before .before in
+    let f = p .before .before in
+    let b = f .before .before .before .before in
+    let s = b .before .before in
+    let z = s .before .before .before .before .before .args in
+    by-call (lent (z .n) (z .intervals .now) (z .edges .now) (z .edge-count)) (z .desk) (z .values .now) (z .bytes .now) _ (p .perform-add .result) _
+    (sym (s .is-step .ensures) ∙ not-false _ (b .before .if1 .left))
+    (call-7 (z .bytes .now) (is-not 3 (b .byte .ensures) (f .before .before .before .if2 .left)) (is-not 4 (b .byte .ensures) (f .before .before .if3 .left))
+    (is-not 5 (b .byte .ensures) (f .before .if4 .left)) (is-not 6 (b .byte .ensures) (f .if5 .left)))
+    (p .perform-add .ensures)
 
 pub perform-spec : {M : Type 1} → statement M
 perform-spec =
@@ -97,4 +110,7 @@ perform-spec =
     (λ c. search needs)
     returns-4
     (λ c κs. search needs)
-    returns-5)
+    returns-5
+    (λ c κs. search needs)
+    (λ c. search needs)
+    returns-6)

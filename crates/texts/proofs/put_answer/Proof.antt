@@ -1,7 +1,7 @@
 -- `put_answer` meets its contract: case by case. Assumes nothing.
 use mathlib.Core.Path.{_≡_}
 use borrow.Author.Needs.{needs}
-use Rattle.replay.specs.declared.Outcome.the-variants.{Waits, Stored}
+use Rattle.replay.specs.declared.Outcome.the-variants.{Waits, Stored, Added}
 use Rattle.texts.proofs.put_answer.Statement.{statement}
 use Rattle.texts.proofs.put_answer.Tie as tie
 use Rattle.texts.proofs.Puts.{told}
@@ -41,6 +41,15 @@ slice-aggregate-put-bytes-2 c = search needs
 
 put-bytes-requires-2 : tie.Need-put-bytes-requires-2
 put-bytes-requires-2 c κs = search needs
+
+enum-told-3 : tie.Need-enum-told-3
+enum-told-3 c = search needs
+
+slice-aggregate-put-bytes-3 : tie.Need-slice-aggregate-put-bytes-3
+slice-aggregate-put-bytes-3 c = search needs
+
+put-bytes-requires-3 : tie.Need-put-bytes-requires-3
+put-bytes-requires-3 c κs = search needs
 
 enum-known-outcome-3 : tie.Need-enum-known-outcome-3
 enum-known-outcome-3 c = search needs
@@ -94,15 +103,22 @@ same-length-5 : tie.Need-same-length-5
 same-length-5 c = search needs
 
 returns-5 : tie.Need-returns-5
-returns-5 c =
-    let z = c .before .before .before .before .before .before .before .before .before .args in told (z .parties .now) (z .at) (z .text .now)
-    (c .before .before .before .before .before .outcome3 .given .1) (c .before .before .put-left .ensures)
+returns-5 c = let z = c .before .before .before .before .before .before .before .before .before .args in let e : z .outcome ≡ Added = search needs in
+    told (z .parties .now) (z .at) (z .text .now) e (c .before .before .put-bytes3 .ensures)
 
 same-length-6 : tie.Need-same-length-6
 same-length-6 c = search needs
 
 returns-6 : tie.Need-returns-6
 returns-6 c =
+    let z = c .before .before .before .before .before .before .before .before .before .args in told (z .parties .now) (z .at) (z .text .now)
+    (c .before .before .before .before .before .outcome3 .given .1) (c .before .before .put-left .ensures)
+
+same-length-7 : tie.Need-same-length-7
+same-length-7 c = search needs
+
+returns-7 : tie.Need-returns-7
+returns-7 c =
     let z = c .before .before .before .before .before .before .before .before .before .before .args in told (z .parties .now) (z .at) (z .text .now)
     (c .before .before .before .before .before .before .outcome4 .given .1) (c .before .before .put-word-number3 .ensures)
 
@@ -122,6 +138,9 @@ put-answer-spec =
     enum-told-2
     slice-aggregate-put-bytes-2
     put-bytes-requires-2
+    enum-told-3
+    slice-aggregate-put-bytes-3
+    put-bytes-requires-3
     enum-known-outcome-3
     put-left-requires
     enum-known-outcome-4
@@ -139,4 +158,6 @@ put-answer-spec =
     same-length-5
     returns-5
     same-length-6
-    returns-6)
+    returns-6
+    same-length-7
+    returns-7)

@@ -1,0 +1,141 @@
+-- WHAT EACH VISIT MAY DO (02, point 5), and that adds of two adding visits come out the same in either order. Assumes nothing.
+use mathlib.Core.Path.{_≡_, refl, sym, ap, _∙_}
+use mathlib.Core.Logic.{_⊎_, inl, inr}
+use mathlib.Core.List.{List}
+use mathlib.Core.Bool.{Bool, true, false, not, true≢false, false≢true}
+use mathlib.Core.Option.{Option, none, some}
+use Prim.Native.Nat.{ℕ}
+use lib.Dec.{ltb}
+use lib.ListN.{length, getD, set, length-set}
+use borrow.Author.Tests.{not-false}
+use Rattle.lists.specs.Answer.{Answer, done, refused, Check, refusal}
+use Rattle.lists.proofs.Refusals.{NoneHolds, refusal-none}
+use Rattle.locks.specs.declared.Mode.{Mode}
+use Rattle.locks.specs.declared.Mode.the-variants.{Reading, Writing, Adding}
+use Rattle.locks.specs.declared.Lock.{Lock}
+use Rattle.locks.specs.declared.Stage.the-variants.{Holding}
+use Rattle.locks.specs.Locks.{compatible}
+use Rattle.locks.specs.Stages.{isReading, isAdding, addsOnly}
+use Rattle.locks.specs.Lent.{Hierarchy}
+use Rattle.desk.specs.declared.Desk.{Desk}
+use Rattle.desk.specs.Desks.{stageAt}
+use Rattle.desk.specs.Steps.{valueChecks, nodeChecks, stepChecks, getOwn, getUnless, getStep, putOwn, putUnless, putStep, addOwn, sum64, addStep}
+use Rattle.history.proofs.Rows.{adds-commute}
+use Rattle.history.proofs.Facts.{touch, touch-own}
+
+-- MODES go together just where both are reading or both are adding
+pub together : (a b : Mode) → compatible a b ≡ true → ((a ≡ Reading) × (b ≡ Reading)) ⊎ ((a ≡ Adding) × (b ≡ Adding))
+together Reading Reading e = inl (refl, refl)
+together Reading Writing e = absurd (true≢false (sym e))
+together Reading Adding e = absurd (true≢false (sym e))
+together Writing Reading e = absurd (true≢false (sym e))
+together Writing Writing e = absurd (true≢false (sym e))
+together Writing Adding e = absurd (true≢false (sym e))
+together Adding Reading e = absurd (true≢false (sym e))
+together Adding Writing e = absurd (true≢false (sym e))
+together Adding Adding e = inr (refl, refl)
+
+-- by what a step looks at
+not-adding : (m : Mode) → isAdding m ≡ false → m ≡ Adding → ⊥
+not-adding m e f = false≢true (sym e ∙ ap isAdding f)
+
+pub is-adding : (m : Mode) → isAdding m ≡ true → m ≡ Adding
+is-adding Reading e = absurd (true≢false (sym e))
+is-adding Writing e = absurd (true≢false (sym e))
+is-adding Adding e = refl
+
+pub is-writing : (m : Mode) → isReading m ≡ false → isAdding m ≡ false → m ≡ Writing
+is-writing Reading r a = absurd (true≢false r)
+is-writing Writing r a = refl
+is-writing Adding r a = absurd (true≢false a)
+
+-- a step that was done was not refused
+get-none : (o : Option ℕ) (d : Desk) (x v : ℕ) → (getUnless o d x) .answer ≡ done v → o ≡ none
+get-none none d x v e = refl
+get-none (some k) d x v e = absurd (false≢true (ap isDone e))
+  where
+    isDone : Answer ℕ → Bool
+    isDone (done a) = true
+    isDone (refused j) = false
+
+put-none : (o : Option ℕ) (d : Desk) (node x : ℕ) (values : List ℕ) → (putUnless o d node x values) .answer ≡ done tt → o ≡ none
+put-none none d node x values e = refl
+put-none (some k) d node x values e = absurd (false≢true (ap isDone e))
+  where
+    isDone : Answer (Unit {0}) → Bool
+    isDone (done a) = true
+    isDone (refused j) = false
+
+module _ (H : Hierarchy) (d : Desk) (party node : ℕ) (values : List ℕ) where
+  -- the party holds, in a mode that P holds of
+  abbrev HoldsIn : (Mode → Type 0) → Type 0
+  HoldsIn P = (l : Lock) × (stageAt d party ≡ Holding l) × P (l .mode)
+
+  -- what the step's own checks say of its hold
+  own-says : (own : List Check) → refusal (valueChecks H d party node values own) ≡ none → NoneHolds own
+  own-says own e = refusal-none own (touch-own H d party node values own e)
+
+  -- a get that is answered with a value is in a visit that isn't adding
+  pub get-possible : (v : ℕ) → (getStep H d party node values) .answer ≡ done v → HoldsIn (λ m. m ≡ Adding → ⊥)
+  unfolding getStep
+  get-possible v e =
+      let fine = get-none (refusal (valueChecks H d party node values (getOwn d party))) d (getD values node 0) v e in
+      let at-node = touch H d party node values (getOwn d party) fine .at-node in
+      (at-node .hold, at-node .holds, not-adding (at-node .hold .mode) (rw (at-node .holds) at (own-says (getOwn d party) fine .0)))
+
+  -- a put that is stored is in a writing visit
+  pub put-possible : (value : ℕ) → (putStep H d party node value values) .answer ≡ done tt → HoldsIn (λ m. m ≡ Writing)
+  unfolding putStep
+  put-possible value e =
+      let fine = put-none (refusal (valueChecks H d party node values (putOwn d party))) d node value values e in
+      let at-node = touch H d party node values (putOwn d party) fine .at-node in
+      let own = own-says (putOwn d party) fine in
+      (at-node .hold, at-node .holds, is-writing (at-node .hold .mode) (rw (at-node .holds) at (own .0)) (rw (at-node .holds) at (own .1 .0)))
+
+  -- an add that is done is in an adding visit, and leaves the sum
+  module _ (number : ℕ) where
+    abbrev addRefusal : List ℕ → Option ℕ
+    addRefusal vs = refusal (valueChecks H d party node vs (addOwn d party))
+
+    add-none : (addStep H d party node number values) .answer ≡ done tt → addRefusal values ≡ none
+    unfolding addStep
+    add-none e = put-none (addRefusal values) d node (sum64 (getD values node 0) number) values e
+
+    pub add-possible : (addStep H d party node number values) .answer ≡ done tt → HoldsIn (λ m. m ≡ Adding)
+    add-possible e =
+        let at-node = touch H d party node values (addOwn d party) (add-none e) .at-node in
+        let own = not-false (addsOnly (stageAt d party)) (own-says (addOwn d party) (add-none e) .0) in
+        (at-node .hold, at-node .holds, is-adding (at-node .hold .mode) (rw (at-node .holds) at own))
+
+    pub add-sum : (addStep H d party node number values) .answer ≡ done tt
+        → (addStep H d party node number values) .values ≡ set values node (sum64 (getD values node 0) number)
+    unfolding addStep
+    add-sum e = rw (put-none (addRefusal values) d node (sum64 (getD values node 0) number) values e) refl
+
+    -- it is done just so on any values of that number
+    pub add-again : (others : List ℕ) → length others ≡ length values → (addStep H d party node number values) .answer ≡ done tt
+        → (addStep H d party node number others) .answer ≡ done tt
+    unfolding addStep
+    add-again others same e =
+        let short : ltb (length others) (H .n) ≡ ltb (length values) (H .n) = ap (λ (k : ℕ). ltb k (H .n)) same in
+        let fine : addRefusal others ≡ none =
+        ap (λ (b : Bool). refusal (stepChecks H d party b (nodeChecks H d party node (addOwn d party)))) short
+        ∙ put-none (addRefusal values) d node (sum64 (getD values node 0) number) values e in
+        rw fine refl
+
+-- TWO ADDS, neither refused: in either order both are done, and leave the same, at one node or at two
+pub adds-either : (H : Hierarchy) (d : Desk) (p q r s x y : ℕ) (values : List ℕ)
+    → (addStep H d p r x values) .answer ≡ done tt → (addStep H d q s y values) .answer ≡ done tt
+    → let first = addStep H d p r x values in let second = addStep H d q s y values in
+    ((addStep H d q s y (first .values)) .answer ≡ done tt) × ((addStep H d p r x (second .values)) .answer ≡ done tt)
+    × ((addStep H d q s y (first .values)) .values ≡ (addStep H d p r x (second .values)) .values)
+adds-either H d p q r s x y values e f =
+    let one = add-sum H d p r values x e in
+    let other = add-sum H d q s values y f in
+    let a = add-again H d q s values y _ (ap length one ∙ length-set values r _) f in
+    let b = add-again H d p r values x _ (ap length other ∙ length-set values s _) e in (
+      a,
+      b,
+      add-sum H d q s _ y a ∙ ap (λ (vs : List ℕ). set vs s (sum64 (getD vs s 0) y)) one ∙ adds-commute values r s x y
+          ∙ sym (add-sum H d p r _ x b ∙ ap (λ (vs : List ℕ). set vs r (sum64 (getD vs r 0) x)) other),
+    )
