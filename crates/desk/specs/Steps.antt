@@ -149,7 +149,7 @@ getUnless none d value = record { desk = d; answer = done value }
 abbrev pub getOwn : Desk → ℕ → List Check
 getOwn d party = 18 when addsOnly (stageAt d party) ∷ []
 
--- the value of a node whose interval lies inside the hold's
+-- the value of a node whose interval lies inside the hold's, in a visit that isn't adding
 unfoldable pub getStep : Hierarchy → Desk → ℕ → ℕ → List ℕ → GetResult
 getStep H d party node values = getUnless (refusal (valueChecks H d party node values (getOwn d party))) d (getD values node 0)
 

@@ -5,7 +5,7 @@ ghost use lib.ListN.{length, take};
 ghost use Rattle.lists.specs.Lists.{over};
 ghost use Rattle.locks.specs.Lent.{lent, spanned};
 ghost use Rattle.desk.specs.Desks.{freshDesk};
-ghost use Rattle.desk.specs.Steps.{grantTo, queueLast, enterStep, getStep, putStep, addStep, leaveStep};
+ghost use Rattle.desk.specs.Steps.{grantTo, queueLast, enterStep, getStep, putStep, sum64, addStep, leaveStep};
 ghost use Rattle.desk.specs.Answers.{Enters, Gets, Puts, Adds, Leaves};
 ghost use Rattle.desk.specs.Inner.{SizesJudged, Judged, NodeJudged, ValueJudged, leftBy};
 use arrivals::Listed;
@@ -112,6 +112,13 @@ fn put_list(places: &[u8], count: usize, list: &mut [u8])
         list[i] = places[i];
         i += 1;
     }
+}
+
+// A number added to a value, modulo 2 to the 64.
+fn sum(value: u64, number: u64) -> u64
+    ensures { λ r. ⌜ r ≡ sum64 value number ⌝ }
+{
+    std::num::wrapping_add_u64(value, number)
 }
 
 impl Desk {
@@ -312,7 +319,7 @@ impl Desk {
         }
     }
 
-    // A party that holds reads the value of a node inside its hold.
+    // A party that holds for reading or writing reads the value of a node inside its hold.
     pub fn get(
         self,
         n: usize,
@@ -325,15 +332,8 @@ impl Desk {
     ) -> GetStep
         ensures { λ r. ⌜ Gets r (getStep (lent n (now (intervals .entry)) (now (edges .entry)) «edge_count») self party node (now (values .entry))) ⌝ }
     {
-        let k = self.judge_value(
-            n,
-            intervals,
-            edges,
-            edge_count,
-            party,
-            node,
-            values.len() < n,
-        );
+        let short = values.len() < n;
+        let k = self.judge_value(n, intervals, edges, edge_count, party, node, short);
         if k == 14 {
             return GetStep {
                 desk: self,
@@ -347,8 +347,8 @@ impl Desk {
             };
         }
         let entries = self.entries;
-        let s = parties::stage(entries, party);
-        if locks::adds_only(s) {
+        let stage = parties::stage(entries, party);
+        if locks::adds_only(stage) {
             return GetStep {
                 desk: self,
                 answer: GetAnswer::Refused(18),
@@ -375,15 +375,8 @@ impl Desk {
     ) -> PutStep
         ensures { λ r. ⌜ Puts r (now (values .exit)) (putStep (lent n (now (intervals .entry)) (now (edges .entry)) «edge_count») self party node value (now (values .entry))) ⌝ }
     {
-        let k = self.judge_value(
-            n,
-            intervals,
-            edges,
-            edge_count,
-            party,
-            node,
-            values.len() < n,
-        );
+        let short = values.len() < n;
+        let k = self.judge_value(n, intervals, edges, edge_count, party, node, short);
         if k != 0 {
             return PutStep {
                 desk: self,
@@ -425,15 +418,8 @@ impl Desk {
     ) -> AddStep
         ensures { λ r. ⌜ Adds r (now (values .exit)) (addStep (lent n (now (intervals .entry)) (now (edges .entry)) «edge_count») self party node number (now (values .entry))) ⌝ }
     {
-        let k = self.judge_value(
-            n,
-            intervals,
-            edges,
-            edge_count,
-            party,
-            node,
-            values.len() < n,
-        );
+        let short = values.len() < n;
+        let k = self.judge_value(n, intervals, edges, edge_count, party, node, short);
         if k != 0 {
             return AddStep {
                 desk: self,
@@ -449,7 +435,7 @@ impl Desk {
             };
         }
         let old = values[node];
-        values[node] = std::num::wrapping_add_u64(old, number);
+        values[node] = sum(old, number);
         AddStep {
             desk: self,
             answer: AddAnswer::Added,

@@ -266,7 +266,7 @@ steps =
     ∷ answer (entersAs Writing (seat freshDesk 1 (Holding (lock Adding 5 3 3))) 5 9) (waits ∷ [])
     ∷ answer (entersAs Adding (seat freshDesk 1 (Holding (lock Reading 5 3 3))) 5 9) (waits ∷ [])
     ∷ answer (entersAs Adding (seat freshDesk 1 (Holding (lock Writing 5 3 3))) 5 9) (waits ∷ [])
-    -- to add beside those who add, but behind 2, which waits to read; where nobody is, it is let in
+    -- to add beside those who add, but behind 2, which waits to read; where nobody waits, it is let in
     ∷ answer (entersAs Adding adders 5 8) (waits ∷ [])
     ∷ answer (entersAs Adding (seat freshDesk 3 (Holding (lock Adding 2 3 4))) 5 8) (granted 8 ∷ [])
     ∷ []
@@ -387,7 +387,7 @@ desks =
     ∷ is (sound (last (last four 7 Writing) 6 Reading)) 1
     ∷ is (sound (last four 6 Writing)) 1
     ∷ is (sound (last freshDesk 6 Writing)) 0
-    -- what the steps answer on an unsound desk, and on one with another waiter; 10 before 11 to 17
+    -- what the steps answer on an unsound desk, and on one with another waiter; 10 before 11 to 18
     ∷ answer (allFive tableT (counting four 1)) (all 10)
     ∷ answer (allFive tableT (seat four 4 (Waiting (lock Writing 0 1 4)))) (waits ∷ value 100 ∷ stored ∷ refused 18 ∷ left (2 ∷ []) ∷ [])
     ∷ answer (allFive tableT (seat four 5 (Holding (lock Reading 3 1 1)))) (refused 12 ∷ value 100 ∷ stored ∷ refused 18 ∷ left (2 ∷ 4 ∷ []) ∷ [])

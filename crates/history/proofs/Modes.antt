@@ -20,10 +20,11 @@ use Rattle.locks.specs.Lent.{Hierarchy}
 use Rattle.desk.specs.declared.Desk.{Desk}
 use Rattle.desk.specs.Desks.{stageAt}
 use Rattle.desk.specs.Steps.{valueChecks, nodeChecks, stepChecks, getOwn, getUnless, getStep, putOwn, putUnless, putStep, addOwn, sum64, addStep}
+use Rattle.runs.proofs.Lends.{unless-same}
 use Rattle.history.proofs.Rows.{adds-commute}
 use Rattle.history.proofs.Facts.{touch, touch-own}
 
--- MODES go together just where both are reading or both are adding
+-- MODES that go together are both reading or both adding
 pub together : (a b : Mode) → compatible a b ≡ true → ((a ≡ Reading) × (b ≡ Reading)) ⊎ ((a ≡ Adding) × (b ≡ Adding))
 together Reading Reading e = inl (refl, refl)
 together Reading Writing e = absurd (true≢false (sym e))
@@ -123,19 +124,24 @@ module _ (H : Hierarchy) (d : Desk) (party node : ℕ) (values : List ℕ) where
         ∙ put-none (addRefusal values) d node (sum64 (getD values node 0) number) values e in
         rw fine refl
 
--- TWO ADDS, neither refused: in either order both are done, and leave the same, at one node or at two
+-- TWO ADDS, neither refused, one behind the other: in either order both are done, and leave the same desk and values, at one node or at two
+add-same : (H : Hierarchy) (d : Desk) (party node number : ℕ) (values : List ℕ) → (addStep H d party node number values) .desk ≡ d
+unfolding addStep
+add-same H d party node number values = unless-same (refusal (valueChecks H d party node values (addOwn d party))) d node (sum64 (getD values node 0) number) values
+
 pub adds-either : (H : Hierarchy) (d : Desk) (p q r s x y : ℕ) (values : List ℕ)
-    → (addStep H d p r x values) .answer ≡ done tt → (addStep H d q s y values) .answer ≡ done tt
-    → let first = addStep H d p r x values in let second = addStep H d q s y values in
-    ((addStep H d q s y (first .values)) .answer ≡ done tt) × ((addStep H d p r x (second .values)) .answer ≡ done tt)
-    × ((addStep H d q s y (first .values)) .values ≡ (addStep H d p r x (second .values)) .values)
+    → let one = addStep H d p r x values in let other = addStep H d q s y values in one .answer ≡ done tt → other .answer ≡ done tt
+    → let behind-one = addStep H (one .desk) q s y (one .values) in let behind-other = addStep H (other .desk) p r x (other .values) in
+    (behind-one .answer ≡ done tt) × (behind-other .answer ≡ done tt) × (behind-one .desk ≡ behind-other .desk) × (behind-one .values ≡ behind-other .values)
 adds-either H d p q r s x y values e f =
-    let one = add-sum H d p r values x e in
+    rw (add-same H d p r x values, add-same H d q s y values)
+    (let one = add-sum H d p r values x e in
     let other = add-sum H d q s values y f in
     let a = add-again H d q s values y _ (ap length one ∙ length-set values r _) f in
     let b = add-again H d p r values x _ (ap length other ∙ length-set values s _) e in (
       a,
       b,
+      add-same H d q s y _ ∙ sym (add-same H d p r x _),
       add-sum H d q s _ y a ∙ ap (λ (vs : List ℕ). set vs s (sum64 (getD vs s 0) y)) one ∙ adds-commute values r s x y
           ∙ sym (add-sum H d p r _ x b ∙ ap (λ (vs : List ℕ). set vs r (sum64 (getD vs r 0) x)) other),
-    )
+    ))

@@ -63,7 +63,12 @@ module _ (H : Hierarchy) (two-each : length (H .intervals) ≡ 2 * H .n) (x : St
   unfolding lentTo
   high-lent = lend-at (H .intervals) (x .intervals) (2 * node + 1) (omega arith) (omega arith)
 
--- A PUT OR ADD leaves as many values as it was lent
+-- A PUT OR ADD changes no desk,
+pub unless-same : (o : Option ℕ) (d : Desk) (node value : ℕ) (values : List ℕ) → (putUnless o d node value values) .desk ≡ d
+unless-same none d node value values = refl
+unless-same (some k) d node value values = refl
+
+-- and leaves as many values as it was lent
 unless-length : (o : Option ℕ) (d : Desk) (node value : ℕ) (values : List ℕ) → length ((putUnless o d node value values) .values) ≡ length values
 unless-length none d node value values = length-set values node value
 unless-length (some k) d node value values = refl

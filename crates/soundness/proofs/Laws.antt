@@ -17,6 +17,7 @@ use Rattle.parties.specs.Sound.{soundParties}
 use Rattle.desk.specs.Sound.{soundDesk}
 use Rattle.desk.specs.Steps.{getOwn, putOwn, addOwn, free, enterRefusal, enterIf, enterUnless, enterStep, valueChecks, getUnless, getStep, putUnless, putStep, sum64, addStep}
 use Rattle.desk.specs.Steps.{leaveRefusal, leaveUnless, leaveStep}
+use Rattle.runs.proofs.Lends.{unless-same}
 
 -- A REFUSED STEP CHANGES NOTHING: the desk handed back is the one given, and so is every buffer
 pub refused-enter : (H : Hierarchy) (d : Desk) (party : ℕ) (mode : Mode) (names : List ℕ) (nameCount k : ℕ)
@@ -41,19 +42,16 @@ unchanged-get H d party node values = by (refusal (valueChecks H d party node va
     by (some j) x = refl
     by none x = refl
 
--- put and add change no desk in any case, and where they are refused no value
+-- where put and add are refused, they change no value
 module _ (d : Desk) (node value : ℕ) (values : List ℕ) where
-  unless-same : (o : Option ℕ) → (putUnless o d node value values) .desk ≡ d
-  unless-same (some j) = refl
-  unless-same none = refl
-
   unless-refused : (k : ℕ) (o : Option ℕ) → (putUnless o d node value values) .answer ≡ refused k → (putUnless o d node value values) .values ≡ values
   unless-refused k (some j) e = refl
   unless-refused k none e = not-both true refl cc
 
+-- they change no desk in any case
 pub unchanged-put : (H : Hierarchy) (d : Desk) (party node value : ℕ) (values : List ℕ) → (putStep H d party node value values) .desk ≡ d
 unfolding putStep
-unchanged-put H d party node value values = unless-same d node value values (refusal (valueChecks H d party node values (putOwn d party)))
+unchanged-put H d party node value values = unless-same (refusal (valueChecks H d party node values (putOwn d party))) d node value values
 
 pub refused-put : (H : Hierarchy) (d : Desk) (party node value k : ℕ) (values : List ℕ) → (putStep H d party node value values) .answer ≡ refused k
     → (putStep H d party node value values) .values ≡ values
@@ -63,7 +61,7 @@ refused-put H d party node value k values e = unless-refused d node value values
 pub unchanged-add : (H : Hierarchy) (d : Desk) (party node number : ℕ) (values : List ℕ) → (addStep H d party node number values) .desk ≡ d
 unfolding addStep
 unchanged-add H d party node number values =
-    unless-same d node (sum64 (getD values node 0) number) values (refusal (valueChecks H d party node values (addOwn d party)))
+    unless-same (refusal (valueChecks H d party node values (addOwn d party))) d node (sum64 (getD values node 0) number) values
 
 pub refused-add : (H : Hierarchy) (d : Desk) (party node number k : ℕ) (values : List ℕ) → (addStep H d party node number values) .answer ≡ refused k
     → (addStep H d party node number values) .values ≡ values

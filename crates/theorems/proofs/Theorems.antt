@@ -1,5 +1,5 @@
 -- THE THEOREMS OF THE DESK, in full, in the order of the customer's demands. Each is proved by citing the one that a crate below proves: with a hypothesis
--- more or a clause less there it would no longer fit. Some of point 4 no crate below states: they follow here, in a few lines, from laws and definitions below.
+-- more or a clause less there it would no longer fit. Some of points 4 and 5 no crate below states: they follow here, in a few lines, from laws and definitions below.
 -- What the terms mean is in the definitions, crates/*/specs; what each function does is its contract, in crates/*/src, where demand 1 is carried: no public
 -- function has a `requires`, and each result is equated with a definition. Assumes nothing.
 use mathlib.Core.Path.{_≡_, refl, sym, ap, _∙_}
@@ -400,7 +400,7 @@ short-put : (K : Hierarchy) (d : Desk) (party node value : ℕ) (buffer : List �
     → putStep K d party node value buffer ≡ record { desk = d; values = buffer; answer = refused 1 }
 short-put K d party node value buffer h = results.short-put K d party node value buffer (results.or-second (tablesShort K) (ltb (length buffer) (K .n)) (lt-ltb (length buffer) (K .n) h))
 
--- nor does an add
+-- and so is an add
 short-add : (K : Hierarchy) (d : Desk) (party node number : ℕ) (buffer : List ℕ) → length buffer < K .n
     → addStep K d party node number buffer ≡ record { desk = d; values = buffer; answer = refused 1 }
 short-add K d party node number buffer h = results.short-add K d party node number buffer (results.or-second (tablesShort K) (ltb (length buffer) (K .n)) (lt-ltb (length buffer) (K .n) h))
@@ -626,12 +626,11 @@ add-sum : (H : Hierarchy) (d : Desk) (party node : ℕ) (values : List ℕ) (num
     → (addStep H d party node number values) .values ≡ set values node ((getD values node 0 + number) % 2 ^ 64)
 add-sum = modes.add-sum
 
--- two adds, neither refused, of any parties at any nodes: in either order both are done, and leave the same
+-- two adds, neither refused, of any parties at any nodes, one behind the other: in either order both are done, and leave the same desk and values
 adds-either : (H : Hierarchy) (d : Desk) (p q r s x y : ℕ) (values : List ℕ)
-    → (addStep H d p r x values) .answer ≡ done tt → (addStep H d q s y values) .answer ≡ done tt
-    → let first = addStep H d p r x values in let second = addStep H d q s y values in
-    ((addStep H d q s y (first .values)) .answer ≡ done tt) × ((addStep H d p r x (second .values)) .answer ≡ done tt)
-    × ((addStep H d q s y (first .values)) .values ≡ (addStep H d p r x (second .values)) .values)
+    → let one = addStep H d p r x values in let other = addStep H d q s y values in one .answer ≡ done tt → other .answer ≡ done tt
+    → let behind-one = addStep H (one .desk) q s y (one .values) in let behind-other = addStep H (other .desk) p r x (other .values) in
+    (behind-one .answer ≡ done tt) × (behind-other .answer ≡ done tt) × (behind-one .desk ≡ behind-other .desk) × (behind-one .values ≡ behind-other .values)
 adds-either = modes.adds-either
 
 -- demand 3 above has adds in its lists: the book notes them, and performing them adds (`noted`, `leaves`, history/specs/History)

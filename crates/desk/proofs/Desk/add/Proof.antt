@@ -72,7 +72,7 @@ slice-write-values c = within (c .before .before .before .before .before .before
 returns-3 : tie.Need-returns-3
 returns-3 c = let m = c .before .before in let t = m .before .before .before .before in let s = t .before .before .before .before .before in
     add-added (lentTo s) (s .args .self) (s .args .party) (s .args .node) (s .args .values .now) (s .args .number)
-    (passed t ∙ refused-later _ _ (adds (m .before) ∙ m .if2 .left) ∙ refusal-nil) (c .wrapping-add-u64 .result) (c .wrapping-add-u64 .ensures)
+    (passed t ∙ refused-later _ _ (adds (m .before) ∙ m .if2 .left) ∙ refusal-nil) (c .sum .result) (c .sum .ensures)
 
 pub add-spec : {M : Type 1} → statement M
 add-spec =
