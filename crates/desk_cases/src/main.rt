@@ -183,7 +183,7 @@ fn mode(asked: usize) -> Mode {
     Mode::Writing
 }
 
-// How many values a line of get, put or add lends of those that there are: ten where it does not say.
+// How many values a line lends of those that there are: ten where it does not say.
 fn values_lent(c: Call, all: usize) -> usize
     ensures { λ r. ⌜ r ≤ all ⌝ }
 {
@@ -224,7 +224,6 @@ fn enter(line: &[u8], c: Call, desk: Desk, intervals: &[u16], edges: &[u16]) -> 
 
 // Gets the value of a node.
 fn get(c: Call, desk: Desk, intervals: &[u16], edges: &[u16], values: &[u64]) -> Desk {
-    let lent = values_lent(c, values.len());
     let step = desk.get(
         c.n,
         intervals,
@@ -232,7 +231,7 @@ fn get(c: Call, desk: Desk, intervals: &[u16], edges: &[u16], values: &[u64]) ->
         c.edge_count,
         c.party,
         c.first,
-        &values[0..lent],
+        values,
     );
     let answer = step.answer;
     say(got(answer));
@@ -241,7 +240,6 @@ fn get(c: Call, desk: Desk, intervals: &[u16], edges: &[u16], values: &[u64]) ->
 
 // Puts a number at a node.
 fn put(c: Call, desk: Desk, intervals: &[u16], edges: &[u16], values: &mut [u64]) -> Desk {
-    let lent = values_lent(c, values.len());
     let number = given(c);
     let step = desk.put(
         c.n,
@@ -251,7 +249,7 @@ fn put(c: Call, desk: Desk, intervals: &[u16], edges: &[u16], values: &mut [u64]
         c.party,
         c.first,
         number,
-        &mut values[0..lent],
+        values,
     );
     let answer = step.answer;
     say(stored(answer, number));
@@ -260,7 +258,6 @@ fn put(c: Call, desk: Desk, intervals: &[u16], edges: &[u16], values: &mut [u64]
 
 // Adds a number at a node.
 fn add(c: Call, desk: Desk, intervals: &[u16], edges: &[u16], values: &mut [u64]) -> Desk {
-    let lent = values_lent(c, values.len());
     let number = given(c);
     let step = desk.add(
         c.n,
@@ -270,7 +267,7 @@ fn add(c: Call, desk: Desk, intervals: &[u16], edges: &[u16], values: &mut [u64]
         c.party,
         c.first,
         number,
-        &mut values[0..lent],
+        values,
     );
     let answer = step.answer;
     say(added(answer, number));
@@ -316,11 +313,10 @@ fn counts(c: Call, desk: Desk) -> Desk {
     d
 }
 
-// Says the first twelve values.
+// Says the values that are lent.
 fn say_values(desk: Desk, values: &[u64]) -> Desk {
-    let end = octets::least(12, values.len());
     let mut i = 0;
-    while i < end {
+    while i < values.len() {
         io::write_all(1, b" ");
         io::print_decimal(1, values[i]);
         i += 1;
@@ -362,20 +358,21 @@ fn perform(
     }
 }
 
-// The same, with the tables made.
+// The same, with the tables made and so many of the values.
 fn answer(line: &[u8], desk: Desk, values: &mut [u64]) -> Desk {
     let c = taken(line);
     let places = c.places % 2051;
     let intervals = table(line, 0, places);
     let ends = c.ends % 2051;
     let edges = table(line, 1, ends);
+    let lent = values_lent(c, values.len());
     perform(
         line,
         c,
         desk,
         &intervals[0..places],
         &edges[0..ends],
-        values,
+        &mut values[0..lent],
     )
 }
 

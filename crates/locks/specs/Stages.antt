@@ -61,7 +61,7 @@ readsOnly Out = false
 readsOnly (Waiting l) = false
 readsOnly (Holding l) = isReading (l .mode)
 
--- 18: get or put in an adding visit, or add in one that isn't (desk/specs/Steps)
+-- 18: get or put in an adding visit; or add where this is false
 abbrev pub addsOnly : Stage → Bool
 addsOnly Out = false
 addsOnly (Waiting l) = false

@@ -1,14 +1,15 @@
--- `say_values` is safe and ends: one value after the other, of those that there are. Assumes nothing.
+-- `say_values` is safe and ends: one value after the other. Assumes nothing.
 use Prim.Native.Nat.{_-_}
+use lib.ListN.{length}
 use borrow.Author.Needs.{needs}
 use Rattle.desk_cases.proofs.say_values.Statement.{statement}
 use Rattle.desk_cases.proofs.say_values.Tie as tie
 
 abbrev Inv-loop : tie.InvT-loop
-Inv-loop desk values end i₀ t5 i = Unit {0}
+Inv-loop desk values i₀ t5 i = Unit {0}
 
 abbrev μ-loop : tie.MeasureT-loop
-μ-loop desk values end i₀ t5 i = end - i
+μ-loop desk values i₀ t5 i = length values - i
 
 loop-holds : tie.Need-loop-holds Inv-loop μ-loop
 loop-holds c = tt
@@ -22,7 +23,6 @@ say-values-spec =
     (tie.spec
     Inv-loop
     μ-loop
-    (λ c κs. search needs)
     loop-holds
     (λ c. search needs)
     (λ c κs. search needs)
