@@ -8,7 +8,8 @@ use Prim.Native.Nat.{ℕ}
 use lib.Dec.{ltb}
 use lib.ListN.{length, getD, set, length-set}
 use borrow.Author.Tests.{not-false}
-use Rattle.lists.specs.Answer.{Answer, done, refused, Check, refusal}
+use Rattle.lists.specs.Answer.{done, Check, refusal}
+use Rattle.lists.proofs.Bools.{not-both}
 use Rattle.lists.proofs.Refusals.{NoneHolds, refusal-none}
 use Rattle.locks.specs.declared.Mode.{Mode}
 use Rattle.locks.specs.declared.Mode.the-variants.{Reading, Writing, Adding}
@@ -20,7 +21,7 @@ use Rattle.locks.specs.Lent.{Hierarchy}
 use Rattle.desk.specs.declared.Desk.{Desk}
 use Rattle.desk.specs.Desks.{stageAt}
 use Rattle.desk.specs.Steps.{valueChecks, nodeChecks, stepChecks, getOwn, getUnless, getStep, putOwn, putUnless, putStep, addOwn, sum64, addStep}
-use Rattle.runs.proofs.Lends.{unless-same}
+use Rattle.runs.proofs.Lends.{add-same}
 use Rattle.history.proofs.Rows.{adds-commute}
 use Rattle.history.proofs.Facts.{touch, touch-own}
 
@@ -53,19 +54,11 @@ is-writing Adding r a = absurd (true≢false a)
 -- a step that was done was not refused
 get-none : (o : Option ℕ) (d : Desk) (x v : ℕ) → (getUnless o d x) .answer ≡ done v → o ≡ none
 get-none none d x v e = refl
-get-none (some k) d x v e = absurd (false≢true (ap isDone e))
-  where
-    isDone : Answer ℕ → Bool
-    isDone (done a) = true
-    isDone (refused j) = false
+get-none (some k) d x v e = not-both true refl cc
 
 put-none : (o : Option ℕ) (d : Desk) (node x : ℕ) (values : List ℕ) → (putUnless o d node x values) .answer ≡ done tt → o ≡ none
 put-none none d node x values e = refl
-put-none (some k) d node x values e = absurd (false≢true (ap isDone e))
-  where
-    isDone : Answer (Unit {0}) → Bool
-    isDone (done a) = true
-    isDone (refused j) = false
+put-none (some k) d node x values e = not-both true refl cc
 
 module _ (H : Hierarchy) (d : Desk) (party node : ℕ) (values : List ℕ) where
   -- the party holds, in a mode that P holds of
@@ -111,9 +104,9 @@ module _ (H : Hierarchy) (d : Desk) (party node : ℕ) (values : List ℕ) where
     pub add-sum : (addStep H d party node number values) .answer ≡ done tt
         → (addStep H d party node number values) .values ≡ set values node (sum64 (getD values node 0) number)
     unfolding addStep
-    add-sum e = rw (put-none (addRefusal values) d node (sum64 (getD values node 0) number) values e) refl
+    add-sum e = rw (add-none e) refl
 
-    -- it is done just so on any values of that number
+    -- it is done likewise on any other values, as many
     pub add-again : (others : List ℕ) → length others ≡ length values → (addStep H d party node number values) .answer ≡ done tt
         → (addStep H d party node number others) .answer ≡ done tt
     unfolding addStep
@@ -121,14 +114,10 @@ module _ (H : Hierarchy) (d : Desk) (party node : ℕ) (values : List ℕ) where
         let short : ltb (length others) (H .n) ≡ ltb (length values) (H .n) = ap (λ (k : ℕ). ltb k (H .n)) same in
         let fine : addRefusal others ≡ none =
         ap (λ (b : Bool). refusal (stepChecks H d party b (nodeChecks H d party node (addOwn d party)))) short
-        ∙ put-none (addRefusal values) d node (sum64 (getD values node 0) number) values e in
+        ∙ add-none e in
         rw fine refl
 
 -- TWO ADDS, neither refused, one behind the other: in either order both are done, and leave the same desk and values, at one node or at two
-add-same : (H : Hierarchy) (d : Desk) (party node number : ℕ) (values : List ℕ) → (addStep H d party node number values) .desk ≡ d
-unfolding addStep
-add-same H d party node number values = unless-same (refusal (valueChecks H d party node values (addOwn d party))) d node (sum64 (getD values node 0) number) values
-
 pub adds-either : (H : Hierarchy) (d : Desk) (p q r s x y : ℕ) (values : List ℕ)
     → let one = addStep H d p r x values in let other = addStep H d q s y values in one .answer ≡ done tt → other .answer ≡ done tt
     → let behind-one = addStep H (one .desk) q s y (one .values) in let behind-other = addStep H (other .desk) p r x (other .values) in

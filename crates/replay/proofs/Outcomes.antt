@@ -22,7 +22,7 @@ use Rattle.locks.specs.Lent.{Hierarchy}
 use Rattle.desk.specs.Steps.{granted as admitted, Admission, waits as queued, EnterResult, GetResult, PutResult, LeaveResult, afterLeaving}
 use Rattle.desk.specs.Steps.{leaveUnless, leaveRefusal, enterStep, getStep, putStep, addStep, leaveStep}
 use Rattle.desk.specs.Answers.{Enters, Gets, Puts, Adds, Leaves, enterMeaning, getMeaning, putMeaning, addMeaning, leaveMeaning}
-use Rattle.runs.specs.Run.{lend, Call, leave, lentTo, State, Moved, afterEnter, afterGet, afterPut, afterAdd, listed, afterLeave, moveCall, move}
+use Rattle.runs.specs.Run.{lend, restored, Call, leave, lentTo, Event, stored as wrote, added as summed, State, Moved, afterEnter, afterGet, afterPut, afterAdd, listed, afterLeave, moveCall, move}
 use Rattle.runs.proofs.Lends.{restored-full, put-length, add-length}
 use Rattle.runs.proofs.Exact.{call-exact}
 use Rattle.runs.proofs.Runs.{move-hierarchy}
@@ -115,29 +115,32 @@ module _ (H : Hierarchy) (d : Desk) (bytes : List ℕ) (party : ℕ) (at-party :
       subst (λ (y : GetResult). Performs (plain (r .desk) o) values (performed (afterGet (partyIn bytes) (nodeIn bytes) (stateOf H d values) y))) same
       (performs _ values (afterGet (partyIn bytes) (nodeIn bytes) (stateOf H d values) x) (e .0) refl (eo ∙ ap (λ (a : Answer ℕ). outcomeOf (getLine a)) (e .1)) (sym (get-none (x .answer))))
 
+  -- put and add: what their step x leaves is what that of the record's fields, y, leaves
+  changed-performs : (event : Answer (Unit {0}) → Event ℕ) → ((a : Answer (Unit {0})) → partiesOf (answerIn (event a)) ≡ replicate 32 0)
+      → (x y : PutResult) → x ≡ y → (values values′ : List ℕ) → length (x .values) ≡ length values
+      → (next : Desk) (a : Answer (Unit {0})) (o : Outcome) → (next ≡ x .desk) × (a ≡ x .answer) × (values′ ≡ x .values) → o ≡ outcomeOf (answerIn (event a))
+      → Performs (plain next o) values′ (performed (record { state = stateOf H (y .desk) (restored values (y .values)); event = event (y .answer) }))
+  changed-performs event none-listed x y same values values′ long next a o e eo =
+      let after : PutResult → Moved = λ z. record { state = stateOf H (z .desk) (restored values (z .values)); event = event (z .answer) } in
+      subst (λ (z : PutResult). Performs (plain next o) values′ (performed (after z))) same
+      (performs _ values′ (after x) (e .0) (e .2 ∙ sym (restored-full values (x .values) long))
+      (eo ∙ ap (λ (b : Answer (Unit {0})). outcomeOf (answerIn (event b))) (e .1)) (sym (none-listed (x .answer))))
+
   pub stored-performs : (node number : ℕ) → node ≡ nodeIn bytes → number ≡ valueIn bytes → (values values′ : List ℕ) (r : PutStep) (o : Outcome)
       → Puts r values′ (putStep H d party node number values) → o ≡ outcomeOf (putLine (putMeaning (r .answer)))
       → PerformsCall (plain (r .desk) o) H d (putCall bytes) values values′
   unfolding moveCall afterPut lend
   stored-performs node number en ev values values′ r o e eo =
-      let x : PutResult = putStep H d party node number values in
-      let same : x ≡ putStep H d (partyIn bytes) (nodeIn bytes) (valueIn bytes) values = rw (at-party, en, ev) refl in
-      subst (λ (y : PutResult). Performs (plain (r .desk) o) values′ (performed (afterPut (partyIn bytes) (nodeIn bytes) (valueIn bytes) (stateOf H d values) y))) same
-      (performs _ values′ (afterPut (partyIn bytes) (nodeIn bytes) (valueIn bytes) (stateOf H d values) x) (e .0)
-      (e .2 ∙ sym (restored-full values (x .values) (put-length H d party node number values)))
-      (eo ∙ ap (λ (a : Answer (Unit {0})). outcomeOf (putLine a)) (e .1)) (sym (put-none (x .answer))))
+      let same : putStep H d party node number values ≡ putStep H d (partyIn bytes) (nodeIn bytes) (valueIn bytes) values = rw (at-party, en, ev) refl in
+      changed-performs (wrote (partyIn bytes) (nodeIn bytes) (valueIn bytes)) put-none _ _ same values values′ (put-length H d party node number values) (r .desk) (putMeaning (r .answer)) o e eo
 
   pub added-performs : (node number : ℕ) → node ≡ nodeIn bytes → number ≡ valueIn bytes → (values values′ : List ℕ) (r : AddStep) (o : Outcome)
       → Adds r values′ (addStep H d party node number values) → o ≡ outcomeOf (addLine (addMeaning (r .answer)))
       → PerformsCall (plain (r .desk) o) H d (addCall bytes) values values′
   unfolding moveCall afterAdd lend
   added-performs node number en ev values values′ r o e eo =
-      let x : PutResult = addStep H d party node number values in
-      let same : x ≡ addStep H d (partyIn bytes) (nodeIn bytes) (valueIn bytes) values = rw (at-party, en, ev) refl in
-      subst (λ (y : PutResult). Performs (plain (r .desk) o) values′ (performed (afterAdd (partyIn bytes) (nodeIn bytes) (valueIn bytes) (stateOf H d values) y))) same
-      (performs _ values′ (afterAdd (partyIn bytes) (nodeIn bytes) (valueIn bytes) (stateOf H d values) x) (e .0)
-      (e .2 ∙ sym (restored-full values (x .values) (add-length H d party node number values)))
-      (eo ∙ ap (λ (a : Answer (Unit {0})). outcomeOf (addLine a)) (e .1)) (sym (add-none (x .answer))))
+      let same : addStep H d party node number values ≡ addStep H d (partyIn bytes) (nodeIn bytes) (valueIn bytes) values = rw (at-party, en, ev) refl in
+      changed-performs (summed (partyIn bytes) (nodeIn bytes) (valueIn bytes)) add-none _ _ same values values′ (add-length H d party node number values) (r .desk) (addMeaning (r .answer)) o e eo
 
   pub left-performs : (r : LeaveStep) (list : List ℕ) (o : Outcome) → Leaves r list (leaveStep H d party (replicate 32 0)) → o ≡ leftOutcome (leaveMeaning (r .answer))
       → PerformsAny (record { desk = r .desk; outcome = o; parties = list }) H d (leaveCall bytes)

@@ -64,9 +64,17 @@ module _ (H : Hierarchy) (two-each : length (H .intervals) ≡ 2 * H .n) (x : St
   high-lent = lend-at (H .intervals) (x .intervals) (2 * node + 1) (omega arith) (omega arith)
 
 -- A PUT OR ADD changes no desk,
-pub unless-same : (o : Option ℕ) (d : Desk) (node value : ℕ) (values : List ℕ) → (putUnless o d node value values) .desk ≡ d
+unless-same : (o : Option ℕ) (d : Desk) (node value : ℕ) (values : List ℕ) → (putUnless o d node value values) .desk ≡ d
 unless-same none d node value values = refl
 unless-same (some k) d node value values = refl
+
+pub put-same : (H : Hierarchy) (d : Desk) (party node value : ℕ) (values : List ℕ) → (putStep H d party node value values) .desk ≡ d
+unfolding putStep
+put-same H d party node value values = unless-same (refusal (valueChecks H d party node values (putOwn d party))) d node value values
+
+pub add-same : (H : Hierarchy) (d : Desk) (party node number : ℕ) (values : List ℕ) → (addStep H d party node number values) .desk ≡ d
+unfolding addStep
+add-same H d party node number values = unless-same (refusal (valueChecks H d party node values (addOwn d party))) d node (sum64 (getD values node 0) number) values
 
 -- and leaves as many values as it was lent
 unless-length : (o : Option ℕ) (d : Desk) (node value : ℕ) (values : List ℕ) → length ((putUnless o d node value values) .values) ≡ length values

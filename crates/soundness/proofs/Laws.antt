@@ -17,7 +17,7 @@ use Rattle.parties.specs.Sound.{soundParties}
 use Rattle.desk.specs.Sound.{soundDesk}
 use Rattle.desk.specs.Steps.{getOwn, putOwn, addOwn, free, enterRefusal, enterIf, enterUnless, enterStep, valueChecks, getUnless, getStep, putUnless, putStep, sum64, addStep}
 use Rattle.desk.specs.Steps.{leaveRefusal, leaveUnless, leaveStep}
-use Rattle.runs.proofs.Lends.{unless-same}
+use Rattle.runs.proofs.Lends.{put-same, add-same}
 
 -- A REFUSED STEP CHANGES NOTHING: the desk handed back is the one given, and so is every buffer
 pub refused-enter : (H : Hierarchy) (d : Desk) (party : ℕ) (mode : Mode) (names : List ℕ) (nameCount k : ℕ)
@@ -50,8 +50,7 @@ module _ (d : Desk) (node value : ℕ) (values : List ℕ) where
 
 -- they change no desk in any case
 pub unchanged-put : (H : Hierarchy) (d : Desk) (party node value : ℕ) (values : List ℕ) → (putStep H d party node value values) .desk ≡ d
-unfolding putStep
-unchanged-put H d party node value values = unless-same (refusal (valueChecks H d party node values (putOwn d party))) d node value values
+unchanged-put = put-same
 
 pub refused-put : (H : Hierarchy) (d : Desk) (party node value k : ℕ) (values : List ℕ) → (putStep H d party node value values) .answer ≡ refused k
     → (putStep H d party node value values) .values ≡ values
@@ -59,9 +58,7 @@ unfolding putStep
 refused-put H d party node value k values e = unless-refused d node value values k (refusal (valueChecks H d party node values (putOwn d party))) e
 
 pub unchanged-add : (H : Hierarchy) (d : Desk) (party node number : ℕ) (values : List ℕ) → (addStep H d party node number values) .desk ≡ d
-unfolding addStep
-unchanged-add H d party node number values =
-    unless-same (refusal (valueChecks H d party node values (addOwn d party))) d node (sum64 (getD values node 0) number) values
+unchanged-add = add-same
 
 pub refused-add : (H : Hierarchy) (d : Desk) (party node number k : ℕ) (values : List ℕ) → (addStep H d party node number values) .answer ≡ refused k
     → (addStep H d party node number values) .values ≡ values
