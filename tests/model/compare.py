@@ -6,7 +6,8 @@
 LISTING is the program. It prints the seed, how often each answer and each refusal was seen, and the first difference; it exits 1 where there is
 one, or where a kind of answer that the paper has was never seen, or a cover that was picked by its number from equally narrow records with
 different intervals, or one of the ways in which a party is granted, or a party that came and was never granted, or a listing with a line
-for each party, or one with none, or one of the cases of adding visits in ADDS, or a wrong kind or mode. --keep writes the file that differs into DIR.
+for each party, or one with none, or one of the cases of adding visits in ADDS or of names in NAMED, or a wrong kind or mode. --keep writes the file that
+differs into DIR.
 Of each listing the line `end` and those behind it are also worked out from the answers before them.
 Files are valid, of the wrong length, damaged with and without a check that was made right again (in all blocks, or in some), misordered,
 of legal and illegal hierarchies, some with many intervals of one width, and now and then of 128 or 129 blocks; most steps take effect, since
@@ -51,11 +52,11 @@ def mended(data, which=lambda: True):
 # ---- hierarchies
 
 def legal(rnd, n, most):
-    """Each record but the root gets a parent before it in a random order of the records; then edges at random."""
+    """Each record but the root gets a parent before it in a random order of the records, in some hierarchies one just before it; then edges at random."""
     names = list(range(1, n))
     rnd.shuffle(names)
-    order = [0, *names]
-    edges = [(order[rnd.randrange(max(0, i - rnd.choice((1, 3, 300))), i)], order[i]) for i in range(1, n)]
+    order, near = [0, *names], rnd.choice(((1, 3, 300), (1, 3, 300), (1, 1, 1, 3)))
+    edges = [(order[rnd.randrange(max(0, i - rnd.choice(near)), i)], order[i]) for i in range(1, n)]
     seen = set(edges)
     for _ in range(rnd.randrange(0, most + 1) if n > 2 else 0):
         e = (rnd.randrange(n), rnd.randrange(1, n))
@@ -109,10 +110,34 @@ MODES = (model.READING, model.WRITING, model.ADDING)
 ALLOWED = {model.GET: (model.READING, model.WRITING), model.PUT: (model.WRITING,), model.ADD: (model.ADDING,)}   # in visits of which modes
 
 
+def rounds(h, names):
+    """What the names reach, by how many edges lead there at least: the names themselves, their children that are no names, and so on."""
+    found, out = set(), [set(names)]
+    while out[-1]:
+        found |= out[-1]
+        out.append({c for x in out[-1] for c in h.children[x]} - found)
+    return out[:-1]
+
+
+def touched(rnd, desk, party):
+    """A record for a holder's get, put or add: mostly one in the reach of its names, at times of one name alone or as far down as can be; else one whose
+    interval lies inside the hold's and that no name reaches, at times one that the cover reaches."""
+    h, (_, cover, names) = desk.h, desk.holds[party]
+    out = rounds(h, names)
+    reached = set().union(*out)
+    alone = [x for x in reached if sum(x in h.reaches[y] for y in names) == 1] if len(names) > 1 else []
+    inside = [x for x in range(h.n) if x not in reached and h.contains(cover, h.low[x], h.high[x])]
+    covered = [x for x in inside if x in h.reaches[cover]]
+    groups = [group for group in (reached, reached, alone, out[-1], inside, inside, covered) if group]
+    return rnd.choice(sorted(rnd.choice(groups)))
+
+
 def steps(rnd, h, count):
-    """Steps that mostly take effect, since the model's desk says who is where; one in eight is picked blindly."""
+    """Steps that mostly take effect, since the model's desk says who is where; one in eight is picked blindly, and one in eight gets, puts and adds is of any
+    holder, whatever its mode."""
     desk, out = model.Desk(h), []
     most, modes = rnd.choice((2, 4, 8, 32)), rnd.choice((MODES, MODES, (1, 2), (1, 3, 3, 3), (2, 3, 3, 3), (3,)))
+    low, deep = [x for x in range(h.n) if len(h.reaches[x]) <= 3] or [0], rnd.choice((0, 0.5, 0.9))
     while len(out) < count:
         holding, inside = list(desk.holds), [*desk.holds, *desk.calls]
         able = {kind: [p for p in holding if desk.holds[p][0] in ALLOWED[kind]] for kind in ALLOWED}
@@ -120,29 +145,30 @@ def steps(rnd, h, count):
         party, node = rnd.randrange(34 if rnd.random() < 0.9 else 256), rnd.randrange(h.n if rnd.random() < 0.95 else 256)
         if inside and rnd.random() < 0.7:
             party = rnd.choice(inside)
-        blind, choice = rnd.random() < 0.125, rnd.random()
-        kind = model.ENTER if choice < 0.35 else rnd.choice([*ALLOWED]) if choice < 0.75 else model.LEAVE
+        blind, any_mode, choice = rnd.random() < 0.125, rnd.random() < 0.125, rnd.random()
+        kind = model.ENTER if choice < 0.3 else rnd.choice([*ALLOWED]) if choice < 0.8 else model.LEAVE
         if not blind:
             if not holding:
                 kind = model.ENTER
             elif kind == model.ENTER and len(inside) >= most:
                 kind = model.LEAVE
-            elif kind in ALLOWED and not able[kind]:
+            elif kind in ALLOWED and not able[kind] and not any_mode:
                 kind = rnd.choice([k for k in ALLOWED if able[k]])
         if kind == model.ENTER:
             if not blind:
                 party = rnd.choice(away)
-            names = [rnd.randrange(h.n) for _ in range(rnd.choice((1, 1, 1, 2, 3, 8)))]
+            names = [rnd.choice(low) if rnd.random() < deep else rnd.randrange(h.n) for _ in range(rnd.choice((1, 1, 2, 3, 5, 8)))]
             names[rnd.randrange(len(names))] = node
+            if len(names) == 8 and h.n > 8 and rnd.random() < 0.5:
+                names = rnd.sample(range(h.n), 8)
             next_to = [x for x in range(h.n) if node < h.n and h.low[x] == h.high[node] + 1]
             if len(names) > 1 and next_to and rnd.random() < 0.4:
                 names = [node, rnd.choice(next_to)]
             r = record(kind, party, rnd.choice(modes), len(names), *names)
         elif kind in ALLOWED:
             if not blind:
-                party = rnd.choice(able[kind] if rnd.random() < 0.95 else holding)
-                cover = desk.holds[party][1]
-                node = rnd.choice([x for x in range(h.n) if h.contains(cover, h.low[x], h.high[x])])
+                party = rnd.choice(holding if any_mode else able[kind])
+                node = touched(rnd, desk, party)
             number = rnd.choice((0, 1, rnd.getrandbits(64), 2**64 - 1, rnd.randrange(1000), 2**64 - 1 - rnd.randrange(1000)))
             r = record(kind, party, node, *((0, *number.to_bytes(8, "little")) if kind != model.GET else ()))
         else:
@@ -295,7 +321,7 @@ def adds(data, lines):
         kind, party, answer = r[0], r[1], line.split()[1:]
         if kind == model.ENTER and r[2] == model.ADDING and answer[0] != "refused":
             cover, waits = desk.h.cover(r[4:4 + r[3]]), answer == ["waits"]
-            beside = [mode for mode, c in desk.holds.values() if desk.conflict((model.WRITING, cover), (model.WRITING, c))]
+            beside = [mode for mode, c, _ in desk.holds.values() if desk.conflict((model.WRITING, cover), (model.WRITING, c))]
             times[BESIDE] += not waits and beside != []
             times[WAITER] += waits
             times[BEHIND] += waits and set(beside) <= {model.ADDING}
@@ -307,6 +333,61 @@ def adds(data, lines):
             times[NOT_ALLOWED[kind, desk.holds[party][0]]] += 1
         elif answer[0] == "left":
             times[FREED] += sum(desk.calls[int(p)][0] == model.ADDING for p in answer[1:]) > 1
+        try:
+            model.perform(desk, r)
+        except model.Refusal:
+            pass
+    return times
+
+
+WORDS = {model.GET: "get", model.PUT: "put", model.ADD: "add"}
+APART = {kind: f"{w} inside the hold's interval and in no name's reach" for kind, w in WORDS.items()}
+COVERED, COVER, EQUAL = "in the cover's reach alone", "the cover itself, in no name's reach", "with a name's interval, in no name's reach"
+FIRST, MIDDLE, FINAL, ALONE = "in the first name's reach alone", "in a middle one's alone", "in the last one's alone", "in a name's reach and not the cover's"
+BACK, DEEP, LATER, AGAIN = "above a name on a cycle", "eight edges or more below each name", "in a visit that waited", "by one who came with other names before"
+BEFORE_16, BEFORE_17, BEFORE_18 = [["refused", k] for k in ("11", "13", "14", "15")], "16 where 17 holds too", "16 where 18 holds too"
+TWICE, MIXED, EIGHT = "names with one twice", "names out of order", "eight different names"
+NAMED = [*APART.values(), COVERED, COVER, EQUAL, FIRST, MIDDLE, FINAL, ALONE, BACK, DEEP, LATER, AGAIN, BEFORE_17, BEFORE_18, TWICE, MIXED, EIGHT]
+
+
+def named(data, lines):
+    """How often each of these (02, point 6) is in a file: gets, puts and adds by what names, cover and reach have to do with the record, and visits by their names."""
+    times = collections.Counter()
+    if lines[0].startswith("refused"):
+        return times
+    desk, records = model.opened(data)
+    h, given, waited = desk.h, {}, set()
+    for r, line in zip(records, lines):
+        kind, party, answer = r[0], r[1], line.split()[1:]
+        if kind == model.ENTER and answer[0] != "refused":
+            names = list(r[4:4 + r[3]])
+            given.setdefault(party, []).append(set(names))
+            waited.discard(party)
+            times[TWICE] += len(set(names)) < len(names)
+            times[MIXED] += names != sorted(names)
+            times[EIGHT] += len(set(names)) == 8
+        elif answer[0] == "left":
+            waited.update(map(int, answer[1:]))
+        elif kind in WORDS and answer not in BEFORE_16:
+            mode, cover, names = desk.holds[party]
+            by = [k for k, x in enumerate(names) if r[2] in h.reaches[x]]
+            inside, reached = h.contains(cover, h.low[r[2]], h.high[r[2]]), r[2] in h.reaches[cover]
+            if (answer == ["refused", "16"]) != (not by):
+                raise SystemExit(f"16 for a record that a name reaches, or none for one that no name does: {line}")
+            times[APART[kind]] += not by and inside
+            times[COVERED] += not by and reached
+            times[COVER] += not by and r[2] == cover
+            times[EQUAL] += not by and any((h.low[x], h.high[x]) == (h.low[r[2]], h.high[r[2]]) for x in names)
+            times[FIRST] += by == [0] and len(names) > 1
+            times[MIDDLE] += len(by) == 1 and 0 < by[0] < len(names) - 1
+            times[FINAL] += by == [len(names) - 1] and len(names) > 1
+            times[ALONE] += by != [] and not reached
+            times[BACK] += any(names[k] in h.reaches[r[2]] and names[k] != r[2] for k in by)
+            times[DEEP] += any(r[2] in found for found in rounds(h, names)[8:])
+            times[LATER] += party in waited
+            times[AGAIN] += any(r[2] in desk.reached(old) for old in given[party][:-1]) and not by
+            times[BEFORE_17] += not by and kind == model.PUT and mode == model.READING
+            times[BEFORE_18] += not by and mode not in ALLOWED[kind] and (kind, mode) != (model.PUT, model.READING)
         try:
             model.perform(desk, r)
         except model.Refusal:
@@ -344,7 +425,7 @@ def main():
         print(f"no such program: {args.listing}")
         return 1
     rnd = random.Random(args.seed)
-    seen, kinds, who, added = (collections.Counter() for _ in range(4))
+    seen, kinds, who, added, names = (collections.Counter() for _ in range(5))
     one_freed = more_freed = ties = many = none = 0
     for k in range(args.files):
         kind, data = one(rnd)
@@ -368,6 +449,7 @@ def main():
         ties += tied(data, lines)
         who += parties(by_enter, by_leave, came)
         added += adds(data, lines)
+        names += named(data, lines)
         many += len(end) == 33
         none += end[-1].startswith("end")
         for line in lines:
@@ -381,7 +463,9 @@ def main():
     print(f"leaves that granted one waiter {one_freed}, several {more_freed}; covers picked by number from records of different intervals {ties}")
     print("parties granted " + ", ".join(f"{w}: {who[w]}" for w in PARTIES) + f"; listings with a line for each party {many}, for none {none}")
     print("adding: " + ", ".join(f"{w}: {added[w]}" for w in ADDS))
-    missing = [w for w in WANTED if not seen[w]] + [f"a party granted {w}" for w in PARTIES if not who[w]] + [w for w in ADDS if not added[w]]
+    print("names: " + ", ".join(f"{w}: {names[w]}" for w in NAMED))
+    missing = [w for w in WANTED if not seen[w]] + [f"a party granted {w}" for w in PARTIES if not who[w]]
+    missing += [w for w in ADDS if not added[w]] + [w for w in NAMED if not names[w]]
     missing += [f"a file with a {w}" for w in ("wrong kind", "wrong mode") if not kinds[w]]
     missing += [w for w, n in (("a leave that grants one", one_freed), ("a leave that grants several", more_freed), ("a cover picked by number from records of different intervals", ties),
                                ("a listing with a line for each party", many), ("a listing with `end` last", none)) if not n]

@@ -63,7 +63,7 @@ def crowd(rnd, h, count, several):
     not refused names one record, once or more often."""
     desk, out, most = model.Desk(h), [], rnd.choice((3, 6, 12, 32, 32))
     modes, deep = rnd.choice(MODES), rnd.choice((0, 0.5, 0.9))
-    narrow = [x for x in range(h.n) if h.width(x) <= 2]
+    narrow = [x for x in range(h.n) if h.width(x) <= 2] or [0]
 
     def name():
         return rnd.choice(narrow) if rnd.random() < deep else rnd.randrange(h.n)
@@ -74,7 +74,8 @@ def crowd(rnd, h, count, several):
         mode = rnd.choices((model.READING, model.WRITING, model.ADDING), modes)[0]
         choice = rnd.random()
         if choice < 0.05:
-            out.append(record(rnd.choice((4, 5, 7)), rnd.randrange(34), rnd.randrange(256)))
+            party = rnd.choice(inside) if inside and rnd.random() < 0.7 else rnd.randrange(34)
+            out.append(record(rnd.choice((4, 5, 7)), party, rnd.randrange(h.n if rnd.random() < 0.9 else 256)))
         elif choice < 0.13:     # refused for its party or its names, whatever else it has
             names = [rnd.randrange(h.n) for _ in range(rnd.randrange(1, 9))]
             party = rnd.choice(inside) if inside and rnd.random() < 0.7 else rnd.randrange(32, 256)
@@ -108,15 +109,15 @@ def adders(data):
     report = model.Report(desk)
     for r in steps:
         waits, needless = report.waits, report.needless
-        there = [report.visits[p] for p in [*desk.holds, *desk.calls]]
+        there = [*desk.holds.values(), *desk.calls.values()]
         try:
             report.step(r)
         except model.Refusal:
             continue
         if report.waits > waits and r[2] == model.ADDING:
-            names = report.reached(r[4:4 + r[3]])
+            reached = desk.reached(r[4:4 + r[3]])
             times[ADDERS[report.needless == needless]] += 1
-            times[ADDERS[2]] += report.needless > needless and any(v[0] == model.ADDING and names & report.reached(v[1]) for v in there)
+            times[ADDERS[2]] += report.needless > needless and any(v[0] == model.ADDING and reached & desk.reached(v[2]) for v in there)
     return times
 
 

@@ -1,5 +1,5 @@
 #!/usr/bin/env python3
-"""A plain model of the record desk, written from the papers (document 01, and points 1, 2, 4 and 5 of 02), to compare the programs with.
+"""A plain model of the record desk, written from the papers (document 01, and points 1, 2, 4, 5 and 6 of 02), to compare the programs with.
 
 It shares no code with the project: sets for reach, Python integers for values, a list of parties for the arrival order.
 `listing(data)` gives the lines that the program `listing` must print for the bytes of one file, `waits(data)` the one line of the program `waits`.
@@ -129,9 +129,10 @@ class Hierarchy:
         if len(self.reach(0)) != n:
             raise Refusal(9)
         number = self.numbering()
+        self.reaches = [self.reach(r) for r in range(n)]
         self.low, self.high = [], []
         for r in range(n):
-            numbers = [number[x] for x in self.reach(r) if x in number]
+            numbers = [number[x] for x in self.reaches[r] if x in number]
             self.low.append(min(numbers))
             self.high.append(max(numbers))
 
@@ -186,6 +187,8 @@ class Hierarchy:
 # ---- visits
 
 class Desk:
+    """A hold, and a waiting call, is its mode, its cover and (02, point 6) its names, ascending and each once."""
+
     def __init__(self, h):
         self.h = h
         self.holds = {}
@@ -194,8 +197,13 @@ class Desk:
         self.grants = [0] * 32
         self.values = [0] * h.n
 
+    def reached(self, names):
+        """All that the named records reach."""
+        return set().union(*(self.h.reaches[x] for x in names))
+
     def conflict(self, a, b):
-        (mode_a, cover_a), (mode_b, cover_b) = a, b
+        """By the intervals of the covers; the names have no part in it."""
+        (mode_a, cover_a, *_), (mode_b, cover_b, *_) = a, b
         before = self.h.high[cover_a] < self.h.low[cover_b]
         behind = self.h.high[cover_b] < self.h.low[cover_a]
         return not before and not behind and (mode_a, mode_b) not in TOGETHER
@@ -217,7 +225,7 @@ class Desk:
             raise Refusal(15)
         if any(x >= self.h.n for x in names):
             raise Refusal(15)
-        visit = (mode, self.h.cover(names))
+        visit = (mode, self.h.cover(names), sorted(set(names)))
         if any(self.conflict(visit, v) for v in [*self.holds.values(), *self.calls.values()]):
             self.calls[party] = visit
             self.arrival.append(party)
@@ -226,6 +234,7 @@ class Desk:
         return f"granted {visit[1]}"
 
     def inside(self, party, record):
+        """The mode of the party's visit. 02, point 6: a visit sees only the reach of the records it named."""
         self.known(party)
         if party in self.calls:
             raise Refusal(14)
@@ -233,8 +242,8 @@ class Desk:
             raise Refusal(13)
         if record >= self.h.n:
             raise Refusal(15)
-        mode, cover = self.holds[party]
-        if not self.h.contains(cover, self.h.low[record], self.h.high[record]):
+        mode, _, names = self.holds[party]
+        if record not in self.reached(names):
             raise Refusal(16)
         return mode
 
@@ -320,35 +329,25 @@ def listing(data):
 
 
 class Report:
-    """02, point 2: beside the desk the mode and names of each party's visit, and the two counts."""
+    """02, point 2: beside the desk the two counts."""
 
     def __init__(self, desk):
         self.desk = desk
-        self.reach = [desk.h.reach(x) for x in range(desk.h.n)]
-        self.visits = {}
         self.waits = self.needless = 0
-
-    def reached(self, names):
-        """All that the named records reach."""
-        return set().union(*(self.reach[x] for x in names))
 
     def meet(self, a, b):
         """Whether the reaches of two visits meet, other than a reader against a reader or (point 5) an adder against an adder."""
-        (mode_a, names_a), (mode_b, names_b) = a, b
+        (mode_a, _, names_a), (mode_b, _, names_b) = a, b
         if (mode_a, mode_b) in TOGETHER:
             return False
-        return not self.reached(names_a).isdisjoint(self.reached(names_b))
+        return not self.desk.reached(names_a).isdisjoint(self.desk.reached(names_b))
 
     def step(self, r):
         """Takes a step. An enter that waits is judged by those who were there before it; a refused step comes to no count."""
-        there = [self.visits[p] for p in [*self.desk.holds, *self.desk.calls]]
-        answer = perform(self.desk, r)
-        if r[0] != ENTER:
-            return
-        visit = self.visits[r[1]] = (r[2], r[4:4 + r[3]])
-        if answer == "waits":
+        there = [*self.desk.holds.values(), *self.desk.calls.values()]
+        if perform(self.desk, r) == "waits":
             self.waits += 1
-            if not any(self.meet(visit, v) for v in there):
+            if not any(self.meet(self.desk.calls[r[1]], v) for v in there):
                 self.needless += 1
 
 

@@ -25,7 +25,7 @@ HERE = os.path.dirname(os.path.abspath(__file__))
 MODEL = os.path.join(HERE, "..", "model", "model.py")
 FILES = os.path.join(HERE, "..", "..", "conformance")
 PROGRAMS = ("listing", "waits")  # functions of the model, and ends of the files' names
-LIMIT = 10  # seconds of processor time for a file; the model needs less than a tenth of one for the longest; with an equivalent change it took over 1.5 once
+LIMIT = 10  # seconds of processor time for a file; the model needs less than a quarter of one for the longest; with an equivalent change it took over 1.5 once
 
 
 class Wrong(Exception):

@@ -52,7 +52,7 @@ COMMANDS = {"rt", "rattle", "gcc", "ulimit"}
 WORDS = {
     "words of the languages Rattle, antt and C": """let else if match return pub extern mut use as record elim rw simp search needs by omega ap self ensures requires
         no_mangle usize u8 u16 u32 u64 bool old C""",
-    "names that the kit gives in the goals of a proof": """Need Need-slice-aggregate After-queue2 Tie Lts args before came ensures given if1 kept loop-again taken
+    "names that the kit gives in the goals of a proof": """Need Need-slice-aggregate After-queue2 After-scratch After-slice-known Tie Lts args before came ensures given if1 kept loop-again taken
         elem-fits element-copy-out-e mul-e slice-aggregate slice-known shared-slice-known keysN""",
     "variables of an example in the text": "arr test",
     "the gate's last line": "N passed failed",

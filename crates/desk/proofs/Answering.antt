@@ -10,7 +10,7 @@ use Rattle.lists.specs.Lists.{over}
 use Rattle.lists.specs.Answer.{done, Check, refusal}
 use Rattle.locks.specs.declared.Mode.{Mode}
 use Rattle.locks.specs.declared.Lock.{Lock}
-use Rattle.locks.specs.Lent.{Hierarchy, coverIn, lockOn}
+use Rattle.locks.specs.Lent.{Hierarchy, lockFor}
 use Rattle.sweeps.specs.declared.Swept.{Swept}
 use Rattle.sweeps.specs.Sweeps.{Sweeps}
 use Rattle.arrivals.proofs.Queues.{listed-take}
@@ -22,14 +22,14 @@ use Rattle.desk.specs.declared.PutAnswer.the-variants.{Stored, Refused a
 use Rattle.desk.specs.declared.AddAnswer.the-variants.{Added, Refused as AddRefused}
 use Rattle.desk.specs.declared.LeaveAnswer.the-variants.{Left, Refused as LeaveRefused}
 use Rattle.desk.specs.Steps.{granted, getOwn, putOwn, addOwn, sum64, enterRefusal, grantTo, queueLast, free, enterIf, enterUnless, enterStep}
-use Rattle.desk.specs.Steps.{valueChecks, getUnless, getStep, putUnless, putStep, addStep, afterLeaving, leaveUnless, leaveRefusal, leaveStep}
+use Rattle.desk.specs.Steps.{valueChecks, scratchLeft, getUnless, getStep, putUnless, putStep, addStep, afterLeaving, leaveUnless, leaveRefusal, leaveStep}
 use Rattle.desk.specs.Answers.{Enters, Gets, Puts, Adds, Leaves}
 use Rattle.desk.specs.Inner.{leftBy}
 
 -- ENTER
 module _ (H : Hierarchy) (d : Desk) (party : ℕ) (mode : Mode) (names : List ℕ) (nameCount : ℕ) where
   abbrev lock : Lock
-  lock = lockOn H mode (coverIn H (take nameCount names))
+  lock = lockFor H mode (take nameCount names)
 
   entered : (o : Option ℕ) → enterRefusal H d party names nameCount ≡ o → enterStep H d party mode names nameCount ≡ enterUnless o d party lock
   unfolding enterStep
@@ -54,46 +54,55 @@ module _ (H : Hierarchy) (d : Desk) (party : ℕ) (mode : Mode) (names : List �
       rw is (ed ∙ ap (queueLast d party) same, refl)
 
 -- GET, PUT and ADD
-module _ (H : Hierarchy) (d : Desk) (party node : ℕ) (values : List ℕ) where
+module _ (H : Hierarchy) (d : Desk) (party node : ℕ) (values scratch : List ℕ) where
   -- what each of them is refused with
   abbrev refusalOf : List Check → Option ℕ
-  refusalOf own = refusal (valueChecks H d party node values own)
+  refusalOf own = refusal (valueChecks H d party node values scratch own)
 
-  got : (o : Option ℕ) → refusalOf (getOwn d party) ≡ o → getStep H d party node values ≡ getUnless o d (getD values node 0)
-  unfolding getStep
-  got o e = ap (λ (x : Option ℕ). getUnless x d (getD values node 0)) e
+  -- the scratch that each of them leaves
+  abbrev left-over : List ℕ
+  left-over = scratchLeft H values scratch
 
-  pub get-refused : (k : ℕ) → eqb k 14 ≡ false → refusalOf (getOwn d party) ≡ some k → Gets (record { desk = d; answer = GetRefused k }) (getStep H d party node values)
-  get-refused k f e = rw (got (some k) e, f) (refl, refl, refl)
+  module _ (scratch′ : List ℕ) (wiped : scratch′ ≡ left-over) where
+    got : (o : Option ℕ) → refusalOf (getOwn d party) ≡ o → getStep H d party node values scratch ≡ getUnless o d (getD values node 0) left-over
+    unfolding getStep
+    got o e = ap (λ (x : Option ℕ). getUnless x d (getD values node 0) left-over) e
 
-  pub get-waiting : (k : ℕ) → k ≡ 14 → refusalOf (getOwn d party) ≡ some k → Gets (record { desk = d; answer = Waiting }) (getStep H d party node values)
-  get-waiting k q e = rw (got (some 14) (e ∙ ap some q)) (refl, refl, refl)
+    pub get-refused : (k : ℕ) → eqb k 14 ≡ false → refusalOf (getOwn d party) ≡ some k → Gets (record { desk = d; answer = GetRefused k }) scratch′ (getStep H d party node values scratch)
+    get-refused k f e = rw (got (some k) e, f) (refl, refl, refl, wiped)
 
-  pub get-value : refusalOf (getOwn d party) ≡ none → Gets (record { desk = d; answer = Value (getD values node 0) }) (getStep H d party node values)
-  get-value e = rw (got none e) (refl, refl, refl)
+    pub get-waiting : (k : ℕ) → k ≡ 14 → refusalOf (getOwn d party) ≡ some k → Gets (record { desk = d; answer = Waiting }) scratch′ (getStep H d party node values scratch)
+    get-waiting k q e = rw (got (some 14) (e ∙ ap some q)) (refl, refl, refl, wiped)
 
-  module _ (value : ℕ) where
-    stored : (o : Option ℕ) → refusalOf (putOwn d party) ≡ o → putStep H d party node value values ≡ putUnless o d node value values
-    unfolding putStep
-    stored o e = ap (λ (x : Option ℕ). putUnless x d node value values) e
+    pub get-value : refusalOf (getOwn d party) ≡ none → Gets (record { desk = d; answer = Value (getD values node 0) }) scratch′ (getStep H d party node values scratch)
+    get-value e = rw (got none e) (refl, refl, refl, wiped)
 
-    pub put-refused : (k : ℕ) → refusalOf (putOwn d party) ≡ some k → Puts (record { desk = d; answer = PutRefused k }) values (putStep H d party node value values)
-    put-refused k e = rw (stored (some k) e) (refl, refl, refl)
+    module _ (value : ℕ) where
+      stored : (o : Option ℕ) → refusalOf (putOwn d party) ≡ o → putStep H d party node value values scratch ≡ putUnless o d node value values left-over
+      unfolding putStep
+      stored o e = ap (λ (x : Option ℕ). putUnless x d node value values left-over) e
 
-    pub put-stored : refusalOf (putOwn d party) ≡ none → Puts (record { desk = d; answer = Stored }) (set values node value) (putStep H d party node value values)
-    put-stored e = rw (stored none e) (refl, refl, refl)
+      pub put-refused : (k : ℕ) → refusalOf (putOwn d party) ≡ some k
+          → Puts (record { desk = d; answer = PutRefused k }) values scratch′ (putStep H d party node value values scratch)
+      put-refused k e = rw (stored (some k) e) (refl, refl, refl, wiped)
 
-  module _ (number : ℕ) where
-    added : (o : Option ℕ) → refusalOf (addOwn d party) ≡ o → addStep H d party node number values ≡ putUnless o d node (sum64 (getD values node 0) number) values
-    unfolding addStep
-    added o e = ap (λ (x : Option ℕ). putUnless x d node (sum64 (getD values node 0) number) values) e
+      pub put-stored : refusalOf (putOwn d party) ≡ none
+          → Puts (record { desk = d; answer = Stored }) (set values node value) scratch′ (putStep H d party node value values scratch)
+      put-stored e = rw (stored none e) (refl, refl, refl, wiped)
 
-    pub add-refused : (k : ℕ) → refusalOf (addOwn d party) ≡ some k → Adds (record { desk = d; answer = AddRefused k }) values (addStep H d party node number values)
-    add-refused k e = rw (added (some k) e) (refl, refl, refl)
+    module _ (number : ℕ) where
+      added : (o : Option ℕ) → refusalOf (addOwn d party) ≡ o
+          → addStep H d party node number values scratch ≡ putUnless o d node (sum64 (getD values node 0) number) values left-over
+      unfolding addStep
+      added o e = ap (λ (x : Option ℕ). putUnless x d node (sum64 (getD values node 0) number) values left-over) e
 
-    pub add-added : refusalOf (addOwn d party) ≡ none → (sum : ℕ) → sum ≡ sum64 (getD values node 0) number
-        → Adds (record { desk = d; answer = Added }) (set values node sum) (addStep H d party node number values)
-    add-added e sum is = rw (added none e) (refl, refl, ap (set values node) is)
+      pub add-refused : (k : ℕ) → refusalOf (addOwn d party) ≡ some k
+          → Adds (record { desk = d; answer = AddRefused k }) values scratch′ (addStep H d party node number values scratch)
+      add-refused k e = rw (added (some k) e) (refl, refl, refl, wiped)
+
+      pub add-added : refusalOf (addOwn d party) ≡ none → (sum : ℕ) → sum ≡ sum64 (getD values node 0) number
+          → Adds (record { desk = d; answer = Added }) (set values node sum) scratch′ (addStep H d party node number values scratch)
+      add-added e sum is = rw (added none e) (refl, refl, ap (set values node) is, wiped)
 
 -- LEAVE
 module _ (H : Hierarchy) (d : Desk) (party : ℕ) (list : List ℕ) where

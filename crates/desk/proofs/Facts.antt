@@ -16,7 +16,7 @@ use Rattle.locks.specs.declared.Lock.{Lock}
 use Rattle.locks.specs.declared.Stage.{Stage}
 use Rattle.locks.specs.declared.Stage.the-variants.{Out, Waiting, Holding}
 use Rattle.locks.specs.Stages.{isOut, isWaiting}
-use Rattle.locks.specs.Lent.{Hierarchy, tablesShort, intervalWrong, insideHold}
+use Rattle.locks.specs.Lent.{Hierarchy, tablesShort, intervalWrong, inNamed}
 use Rattle.desk.specs.declared.Desk.{Desk}
 use Rattle.desk.specs.Desks.{stageAt}
 use Rattle.desk.specs.Sound.{soundDesk}
@@ -46,7 +46,7 @@ module _ (H : Hierarchy) (d : Desk) (party : ℕ) (short : Bool) (own : List Che
       }
 
 -- who is neither out nor waiting holds
-holder-of : (s : Stage) → isOut s ≡ false → isWaiting s ≡ false → (l : Lock) × (s ≡ Holding l)
+pub holder-of : (s : Stage) → isOut s ≡ false → isWaiting s ≡ false → (l : Lock) × (s ≡ Holding l)
 holder-of Out a b = absurd (true≢false a)
 holder-of (Waiting l) a b = absurd (true≢false b)
 holder-of (Holding l) a b = (l, refl)
@@ -64,5 +64,5 @@ module _ (H : Hierarchy) (d : Desk) (party node : ℕ) (own : List Check) (e : r
         hold = h .0;
         holds = h .1;
         below = ltb-true node (H .n) (not-false (ltb node (H .n)) (f .1 .1 .0));
-        inside = rw (h .1) at (not-false (insideHold H node (stageAt d party)) (f .1 .1 .1 .0));
+        reached = rw (h .1) at (not-false (inNamed H node (stageAt d party)) (f .1 .1 .1 .0));
       }

@@ -11,16 +11,16 @@ use borrow.Author.Tests.{ne-eqb, ltb-false}
 use Rattle.lists.specs.Lists.{anyBelow}
 use Rattle.lists.specs.Answer.{Check, _when_, refusal}
 use Rattle.hierarchy.specs.Hierarchy.{edgesOf, someEdge, sizeWrong, edgesTooMany, edgeWrong}
+use Rattle.lists.proofs.Bools.{or-left}
 use Rattle.lists.proofs.Refusals.{refusal-nil, refused-here, refused-later}
 use Rattle.locks.specs.Stages.{isOut, isWaiting}
-use Rattle.locks.specs.Lent.{Hierarchy, lent, spanned, tablesShort, intervalWrong, insideHold}
-use Rattle.locks.proofs.Tables.{inside-any}
+use Rattle.locks.specs.Lent.{Hierarchy, lent, spanned, tablesShort, intervalWrong, inNamed}
 use Rattle.parties.specs.Sound.{soundParties}
 use Rattle.parties.proofs.Clauses.{sound-few}
 use Rattle.desk.specs.declared.Desk.{Desk}
 use Rattle.desk.specs.Desks.{stageAt}
 use Rattle.desk.specs.Sound.{soundDesk}
-use Rattle.desk.specs.Steps.{stepChecks, StepFacts, nodeChecks, NodeFacts}
+use Rattle.desk.specs.Steps.{stepChecks, StepFacts, nodeChecks, NodeFacts, valuesShort}
 use Rattle.desk.specs.Inner.{refusalAfter, SizesJudged, Judged, NodeJudged, ValueJudged}
 use Rattle.desk.proofs.Facts.{step-own, step-facts, node-facts}
 
@@ -105,21 +105,18 @@ module _ (H : Hierarchy) (d : Desk) (party node : ℕ) where
       node-15 e own = refused-later _ _ e₁₃ ∙ refused-later _ _ e₁₄ ∙ refused-here _ _ e
 
       module _ (e₁₅ : not (ltb node (H .n)) ≡ false) where
-        pub node-16 : not (insideHold H node (stageAt d party)) ≡ true → NodeJudged H d party node 16
+        pub node-16 : not (inNamed H node (stageAt d party)) ≡ true → NodeJudged H d party node 16
         node-16 e own = refused-later _ _ e₁₃ ∙ refused-later _ _ e₁₄ ∙ refused-later _ _ e₁₅ ∙ refused-here _ _ e
 
-        pub node-0 : not (insideHold H node (stageAt d party)) ≡ false → NodeJudged H d party node 0
+        pub node-0 : not (inNamed H node (stageAt d party)) ≡ false → NodeJudged H d party node 0
         node-0 e own = refused-later _ _ e₁₃ ∙ refused-later _ _ e₁₄ ∙ refused-later _ _ e₁₅ ∙ refused-later _ _ e
-
-pub node-lent : (n : ℕ) (intervals edges : List ℕ) (edgeCount : ℕ) (d : Desk) (party node k : ℕ) → NodeJudged (spanned n intervals) d party node k
-    → NodeJudged (lent n intervals edges edgeCount) d party node k
-node-lent n intervals edges edgeCount d party node k j own =
-    ap (λ (b : Bool). refusal (13 when isOut (stageAt d party) ∷ 14 when isWaiting (stageAt d party) ∷ 15 when not (ltb node n) ∷ 16 when not b ∷ own))
-    (inside-any n n intervals edges edgeCount node (stageAt d party))
-    ∙ j own
 
 -- BOTH, and then only the visit's mode is left
 module _ (H : Hierarchy) (d : Desk) (party node : ℕ) (short : Bool) where
+  -- what is lent is too short
+  pub value-1 : (tablesShort H || short) ≡ true → ValueJudged H d party node short 1
+  value-1 e own = refused-here _ _ e
+
   pub value-first : (k : ℕ) → (k ≡ 0 → ⊥) → Judged H d party short k → ValueJudged H d party node short k
   value-first k e j own = judged-some H d party short k e j (nodeChecks H d party node own) ∙ sym (rw (ne-eqb k 0 e) refl)
 
@@ -140,7 +137,7 @@ module _ (H : Hierarchy) (d : Desk) (party node : ℕ) (short : Bool) where
           (step-facts H d party short _ passed, node-facts H d party node [] (step-own H d party short _ passed))
 
 -- where the n values are lent, the node has one
-pub value-lent : (H : Hierarchy) (d : Desk) (party node : ℕ) (values : List ℕ) (k : ℕ) → k ≡ 0 → ValueJudged H d party node (ltb (length values) (H .n)) k → node < length values
-value-lent H d party node values k e j =
-    let (step, at-node) = value-facts H d party node (ltb (length values) (H .n)) k j e in
-    omega (arith, at-node .below, ltb-false (length values) (H .n) (step .own-lent))
+pub value-lent : (H : Hierarchy) (d : Desk) (party node : ℕ) (values scratch : List ℕ) (k : ℕ) → k ≡ 0 → ValueJudged H d party node (valuesShort H values scratch) k → node < length values
+value-lent H d party node values scratch k e j =
+    let (step, at-node) = value-facts H d party node (valuesShort H values scratch) k j e in
+    omega (arith, at-node .below, ltb-false (length values) (H .n) (or-left (ltb (length values) (H .n)) (ltb (length scratch) 256) (step .own-lent)))

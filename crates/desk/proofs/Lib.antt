@@ -3,3 +3,4 @@ pub mod Facts
 pub mod Judging
 pub mod Answering
 pub mod Writes
+pub mod Called

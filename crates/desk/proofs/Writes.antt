@@ -4,10 +4,11 @@ use mathlib.Core.List.{List, [], _∷_, _++_, append-assoc}
 use Prim.Native.Nat.{ℕ, suc, _+_, _≤_, _<_}
 use native.Mathlib.Numerals.{add-one}
 use native.Mathlib.Omega.{arith}
-use lib.ListN.{length, getD, take, drop, set, length-append, length-drop}
-use lib.Seq.{drop-cons, set-append-seam, length-take-le}
+use lib.ListN.{length, getD, take, drop, set, replicate, length-append, length-drop, length-replicate}
+use lib.Seq.{drop-cons, set-append-seam, length-take-le, take-append-le}
 use Rattle.lists.specs.Lists.{over}
 use Rattle.lists.proofs.Loops.{take-step}
+use Rattle.lists.proofs.Marks.{take-zeros}
 
 -- one element more
 over-push : (xs : List ℕ) (x : ℕ) (buffer : List ℕ) → length xs < length buffer → set (over xs buffer) (length xs) x ≡ over (xs ++ (x ∷ [])) buffer
@@ -32,3 +33,12 @@ over-next places buffer list i h g e =
 pub over-length : (xs buffer : List ℕ) → length xs ≤ length buffer → length (over xs buffer) ≡ length buffer
 unfolding over
 over-length xs buffer h = length-append xs (drop (length xs) buffer) ∙ simp length-drop (omega arith)
+
+-- zeros over the front of a buffer, of which fewer are lent on
+pub zero-front : (n k : ℕ) (buffer : List ℕ) → n ≤ k → k ≤ length buffer → (n ≤ length (over (replicate k 0) buffer)) × (take n (over (replicate k 0) buffer) ≡ replicate n 0)
+unfolding over
+zero-front n k buffer h g =
+    let z : length (replicate {A = ℕ} k 0) ≡ k = length-replicate k 0 in (
+      omega (arith, over-length (replicate k 0) buffer (omega arith)),
+      take-append-le n (replicate k 0) (drop (length (replicate {A = ℕ} k 0)) buffer) (omega arith) ∙ take-zeros n k h,
+    )

@@ -58,17 +58,17 @@ getCase (refused k) = cond (eqb k 14) Waiting (GetRefused k)
 abbrev pub Enters : EnterStep → EnterResult → Type 0
 Enters r s = (r .desk ≡ s .desk) × (enterMeaning (r .answer) ≡ s .answer)
 
--- of get; the case is pinned too
-abbrev pub Gets : GetStep → GetResult → Type 0
-Gets r s = (r .desk ≡ s .desk) × (getMeaning (r .answer) ≡ s .answer) × (r .answer ≡ getCase (s .answer))
+-- of get, with the scratch that it leaves; the case is pinned too
+abbrev pub Gets : GetStep → (scratch : List ℕ) → GetResult → Type 0
+Gets r scratch s = (r .desk ≡ s .desk) × (getMeaning (r .answer) ≡ s .answer) × (r .answer ≡ getCase (s .answer)) × (scratch ≡ s .scratch)
 
--- of put, with the values that it leaves
-abbrev pub Puts : PutStep → List ℕ → PutResult → Type 0
-Puts r values s = (r .desk ≡ s .desk) × (putMeaning (r .answer) ≡ s .answer) × (values ≡ s .values)
+-- of put, with the values and the scratch that it leaves
+abbrev pub Puts : PutStep → (values scratch : List ℕ) → PutResult → Type 0
+Puts r values scratch s = (r .desk ≡ s .desk) × (putMeaning (r .answer) ≡ s .answer) × (values ≡ s .values) × (scratch ≡ s .scratch)
 
--- of add, with the values that it leaves
-abbrev pub Adds : AddStep → List ℕ → PutResult → Type 0
-Adds r values s = (r .desk ≡ s .desk) × (addMeaning (r .answer) ≡ s .answer) × (values ≡ s .values)
+-- of add, likewise
+abbrev pub Adds : AddStep → (values scratch : List ℕ) → PutResult → Type 0
+Adds r values scratch s = (r .desk ≡ s .desk) × (addMeaning (r .answer) ≡ s .answer) × (values ≡ s .values) × (scratch ≡ s .scratch)
 
 -- of leave, with the list that it leaves
 abbrev pub Leaves : LeaveStep → List ℕ → LeaveResult → Type 0

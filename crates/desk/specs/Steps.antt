@@ -5,15 +5,16 @@ use mathlib.Core.Bool.{Bool, true, false, not, _||_}
 use mathlib.Core.Option.{Option, none, some}
 use Prim.Native.Nat.{ℕ, _+_, _*_, _%_, _^_, _≤_, _<_}
 use lib.Dec.{ltb}
-use lib.ListN.{length, getD, set, take}
+use lib.ListN.{length, getD, set, take, replicate}
 use Rattle.lists.specs.Lists.{anyBelow, over}
 use Rattle.lists.specs.Answer.{Answer, done, refused, Check, _when_, refusal}
-use Rattle.hierarchy.specs.Hierarchy.{edgesOf, someEdge, sizeWrong, edgesTooMany, edgeWrong}
+use Rattle.hierarchy.specs.Hierarchy.{edgesOf, someEdge, sizeWrong, edgesTooMany, edgeWrong, inReach}
+use Rattle.naming.specs.Names.{namesOf}
 use Rattle.locks.specs.declared.Mode.{Mode}
 use Rattle.locks.specs.declared.Lock.{Lock}
 use Rattle.locks.specs.declared.Stage.the-variants.{Waiting, Holding}
 use Rattle.locks.specs.Stages.{isOut, isWaiting, readsOnly, addsOnly}
-use Rattle.locks.specs.Lent.{Hierarchy, coverIn, tablesShort, intervalWrong, namesWrong, lockOn, insideLock, insideHold}
+use Rattle.locks.specs.Lent.{Hierarchy, tablesShort, intervalWrong, namesWrong, lockFor, inNamed}
 use Rattle.parties.specs.Parties.{entryOf, isFree}
 use Rattle.arrivals.specs.Arrivals.{queuePlaces}
 use Rattle.grants.specs.Grants.{countGrant, countGrants}
@@ -108,7 +109,7 @@ enterUnless none d party l = enterIf (free d l) d party l
 -- granted, with the cover, exactly when it conflicts with no holder and no waiter; otherwise it waits
 unfoldable pub enterStep : Hierarchy → Desk → ℕ → Mode → List ℕ → ℕ → EnterResult
 enterStep H d party mode names nameCount =
-    enterUnless (enterRefusal H d party names nameCount) d party (lockOn H mode (coverIn H (take nameCount names)))
+    enterUnless (enterRefusal H d party names nameCount) d party (lockFor H mode (take nameCount names))
 
 -- GET
 
@@ -118,7 +119,7 @@ nodeChecks H d party node own =
     13 when isOut (stageAt d party)
     ∷ 14 when isWaiting (stageAt d party)
     ∷ 15 when not (ltb node (H .n))
-    ∷ 16 when not (insideHold H node (stageAt d party))
+    ∷ 16 when not (inNamed H node (stageAt d party))
     ∷ own
 
 -- the same by name: what a get, put or add that none of these refuses knows (`node-facts`, proofs/Facts)
@@ -128,43 +129,59 @@ pub record NodeFacts (H : Hierarchy) (d : Desk) (party node : ℕ) : Type 0 wher
   pub holds : stageAt d party ≡ Holding hold
   -- 15: the node is one of the hierarchy's
   pub below : node < H .n
-  -- 16: its interval lies inside the hold's
-  pub inside : insideLock H node hold ≡ true
+  -- 16: it is in the reach of one of the hold's names
+  pub reached : inReach (H .n) (edgesOf (H .edges) (H .edgeCount)) (namesOf (hold .names)) node ≡ true
 
--- get, put and add are lent the n values
-abbrev pub valueChecks : Hierarchy → Desk → ℕ → ℕ → List ℕ → List Check → List Check
-valueChecks H d party node values own = stepChecks H d party (ltb (length values) (H .n)) (nodeChecks H d party node own)
+-- get, put and add are lent the n values, and a scratch of 256 bytes for the search
+abbrev pub valuesShort : Hierarchy → (values scratch : List ℕ) → Bool
+valuesShort H values scratch = ltb (length values) (H .n) || ltb (length scratch) 256
 
--- what get leaves: the next desk, and its answer, a value
+-- what get, put and add look at
+abbrev pub valueChecks : Hierarchy → Desk → ℕ → ℕ → (values scratch : List ℕ) → List Check → List Check
+valueChecks H d party node values scratch own = stepChecks H d party (valuesShort H values scratch) (nodeChecks H d party node own)
+
+-- scratch is unchanged after refusal 1; after any other end, refused or not, its first 256 bytes are zero and the rest unchanged
+abbrev pub searchAfter : (short : Bool) → List ℕ → List ℕ
+searchAfter true scratch = scratch
+searchAfter false scratch = over (replicate 256 0) scratch
+
+-- the scratch that get, put and add leave; 1 is the first thing looked at
+abbrev pub scratchLeft : Hierarchy → (values scratch : List ℕ) → List ℕ
+scratchLeft H values scratch = searchAfter (tablesShort H || valuesShort H values scratch) scratch
+
+-- what get leaves: the next desk, the scratch, and its answer, a value
 pub record GetResult : Type 0 where
   pub desk : Desk
+  pub scratch : List ℕ
   pub answer : Answer ℕ
 
 -- get changes no desk
-abbrev pub getUnless : Option ℕ → Desk → ℕ → GetResult
-getUnless (some k) d value = record { desk = d; answer = refused k }
-getUnless none d value = record { desk = d; answer = done value }
+abbrev pub getUnless : Option ℕ → Desk → ℕ → List ℕ → GetResult
+getUnless (some k) d value scratch = record { desk = d; scratch = scratch; answer = refused k }
+getUnless none d value scratch = record { desk = d; scratch = scratch; answer = done value }
 
 -- what get alone looks at: 18 in an adding visit
 abbrev pub getOwn : Desk → ℕ → List Check
 getOwn d party = 18 when addsOnly (stageAt d party) ∷ []
 
--- the value of a node whose interval lies inside the hold's, in a visit that isn't adding
-unfoldable pub getStep : Hierarchy → Desk → ℕ → ℕ → List ℕ → GetResult
-getStep H d party node values = getUnless (refusal (valueChecks H d party node values (getOwn d party))) d (getD values node 0)
+-- the value of a node in the reach of one of the hold's names, in a visit that isn't adding
+unfoldable pub getStep : Hierarchy → Desk → ℕ → ℕ → (values scratch : List ℕ) → GetResult
+getStep H d party node values scratch =
+    getUnless (refusal (valueChecks H d party node values scratch (getOwn d party))) d (getD values node 0) (scratchLeft H values scratch)
 
 -- PUT
 
--- what put leaves, and add: the next desk, the values in what it was lent, and its answer
+-- what put leaves, and add: the next desk, the values in what it was lent, the scratch, and its answer
 pub record PutResult : Type 0 where
   pub desk : Desk
   pub values : List ℕ
+  pub scratch : List ℕ
   pub answer : Answer (Unit {0})
 
--- a refusal changes nothing
-abbrev pub putUnless : Option ℕ → Desk → ℕ → ℕ → List ℕ → PutResult
-putUnless (some k) d node value values = record { desk = d; values = values; answer = refused k }
-putUnless none d node value values = record { desk = d; values = set values node value; answer = done tt }
+-- a refusal changes nothing but the scratch
+abbrev pub putUnless : Option ℕ → Desk → ℕ → ℕ → (values scratch : List ℕ) → PutResult
+putUnless (some k) d node value values scratch = record { desk = d; values = values; scratch = scratch; answer = refused k }
+putUnless none d node value values scratch = record { desk = d; values = set values node value; scratch = scratch; answer = done tt }
 
 -- what put alone looks at: 17 in a reading visit, 18 in an adding one
 abbrev pub putOwn : Desk → ℕ → List Check
@@ -174,9 +191,9 @@ putOwn d party =
     ∷ []
 
 -- the same for a writing visit; that one value becomes the given number
-unfoldable pub putStep : Hierarchy → Desk → ℕ → ℕ → ℕ → List ℕ → PutResult
-putStep H d party node value values =
-    putUnless (refusal (valueChecks H d party node values (putOwn d party))) d node value values
+unfoldable pub putStep : Hierarchy → Desk → ℕ → ℕ → ℕ → (values scratch : List ℕ) → PutResult
+putStep H d party node value values scratch =
+    putUnless (refusal (valueChecks H d party node values scratch (putOwn d party))) d node value values (scratchLeft H values scratch)
 
 -- ADD
 
@@ -189,9 +206,9 @@ abbrev pub addOwn : Desk → ℕ → List Check
 addOwn d party = 18 when not (addsOnly (stageAt d party)) ∷ []
 
 -- as put, for an adding visit; that one value becomes the sum of itself and the given number
-unfoldable pub addStep : Hierarchy → Desk → ℕ → ℕ → ℕ → List ℕ → PutResult
-addStep H d party node number values =
-    putUnless (refusal (valueChecks H d party node values (addOwn d party))) d node (sum64 (getD values node 0) number) values
+unfoldable pub addStep : Hierarchy → Desk → ℕ → ℕ → ℕ → (values scratch : List ℕ) → PutResult
+addStep H d party node number values scratch =
+    putUnless (refusal (valueChecks H d party node values scratch (addOwn d party))) d node (sum64 (getD values node 0) number) values (scratchLeft H values scratch)
 
 -- LEAVE
 

@@ -1,11 +1,14 @@
 // The desk: who may be in which nodes. The desk, what its five steps answer, and the steps.
 ghost use mathlib.Core.Path.{_≡_};
 ghost use Prim.Native.Nat.{_≤_, _<_};
-ghost use lib.ListN.{length, take};
+ghost use mathlib.Core.Bool.{_||_};
+ghost use mathlib.Core.List.{[]};
+ghost use lib.Dec.{ltb};
+ghost use lib.ListN.{length, take, replicate};
 ghost use Rattle.lists.specs.Lists.{over};
-ghost use Rattle.locks.specs.Lent.{lent, spanned};
+ghost use Rattle.locks.specs.Lent.{lent, tablesShort};
 ghost use Rattle.desk.specs.Desks.{freshDesk};
-ghost use Rattle.desk.specs.Steps.{grantTo, queueLast, enterStep, getStep, putStep, sum64, addStep, leaveStep};
+ghost use Rattle.desk.specs.Steps.{grantTo, queueLast, enterStep, searchAfter, getStep, putStep, sum64, addStep, leaveStep};
 ghost use Rattle.desk.specs.Answers.{Enters, Gets, Puts, Adds, Leaves};
 ghost use Rattle.desk.specs.Inner.{SizesJudged, Judged, NodeJudged, ValueJudged, leftBy};
 use arrivals::Listed;
@@ -114,6 +117,17 @@ fn put_list(places: &[u8], count: usize, list: &mut [u8])
     }
 }
 
+// Bytes of the scratch that get, put and add are lent for their search.
+const SEARCH: usize = 256;
+
+// Puts 0 into the bytes of the search.
+fn wipe(scratch: &mut [u8])
+    requires { ⌜ 256 ≤ length (now scratch) ⌝ }
+    ensures { λ _. ⌜ now (scratch .exit) ≡ over (replicate 256 0) (now (scratch .entry)) ⌝ }
+{
+    hierarchy::clear(&mut scratch[..SEARCH]);
+}
+
 // A number added to a value, modulo 2 to the 64.
 fn sum(value: u64, number: u64) -> u64
     ensures { λ r. ⌜ r ≡ sum64 value number ⌝ }
@@ -165,9 +179,19 @@ impl Desk {
         0
     }
 
-    // What get, put and add look at besides: the number of the first refusal that holds, or 0.
-    fn judge_node(self, n: usize, intervals: &[u16], party: usize, node: usize) -> u8
-        ensures { λ r. ⌜ (r < 17) × NodeJudged (spanned n (now (intervals .entry))) self party node r ⌝ }
+    // What get, put and add look at besides: the number of the first refusal that holds, or 0. The scratch of the search is 0 before and after.
+    fn judge_node(
+        self,
+        n: usize,
+        edges: &[u16],
+        edge_count: usize,
+        party: usize,
+        node: usize,
+        scratch: &mut [u8],
+    ) -> u8
+        requires { ⌜ (n ≤ length (now scratch)) × (take n (now scratch) ≡ replicate n 0) ⌝ }
+        ensures { λ r. ⌜ (r < 17) × NodeJudged (lent n [] (now (edges .entry)) «edge_count») self party node r ⌝ }
+        ensures { λ _. ⌜ now (scratch .exit) ≡ now (scratch .entry) ⌝ }
     {
         let entries = self.entries;
         let s = parties::stage(entries, party);
@@ -180,13 +204,13 @@ impl Desk {
         if n <= node {
             return 15;
         }
-        if !locks::inside_hold(intervals, node, s) {
+        if !locks::in_named(edges, edge_count, node, s, &mut scratch[..n]) {
             return 16;
         }
         0
     }
 
-    // What get, put and add look at but for the visit's mode: the number of the first refusal that holds, or 0.
+    // What get, put and add look at but for the visit's mode: the number of the first refusal that holds, or 0. `few` says that the values are too few.
     fn judge_value(
         self,
         n: usize,
@@ -195,15 +219,22 @@ impl Desk {
         edge_count: usize,
         party: usize,
         node: usize,
-        short: bool,
+        few: bool,
+        scratch: &mut [u8],
     ) -> u8
-        ensures { λ r. ⌜ (r < 17) × ValueJudged (lent n (now (intervals .entry)) (now (edges .entry)) «edge_count») self party node short r ⌝ }
+        ensures { λ r. ⌜ (r < 17) × ValueJudged (lent n (now (intervals .entry)) (now (edges .entry)) «edge_count») self party node (few || ltb (length (now (scratch .entry))) 256) r ⌝ }
+        ensures { λ _. ⌜ now (scratch .exit) ≡ searchAfter (tablesShort (lent n (now (intervals .entry)) (now (edges .entry)) «edge_count») || (few || ltb (length (now (scratch .entry))) 256)) (now (scratch .entry)) ⌝ }
     {
+        let short = few | (scratch.len() < SEARCH);
+        if locks::tables_short(n, intervals, edges, edge_count) | short {
+            return 1;
+        }
+        wipe(scratch);
         let k = self.judge(n, intervals, edges, edge_count, party, short);
         if k != 0 {
             return k;
         }
-        self.judge_node(n, intervals, party, node)
+        self.judge_node(n, edges, edge_count, party, node, scratch)
     }
 
     // The desk with a lock granted to a party that was out.
@@ -319,7 +350,7 @@ impl Desk {
         }
     }
 
-    // A party that holds for reading or writing reads the value of a node inside its hold.
+    // A party that holds for reading or writing reads the value of a node in the reach of a name of its visit.
     pub fn get(
         self,
         n: usize,
@@ -329,11 +360,12 @@ impl Desk {
         party: usize,
         node: usize,
         values: &[u64],
+        scratch: &mut [u8],
     ) -> GetStep
-        ensures { λ r. ⌜ Gets r (getStep (lent n (now (intervals .entry)) (now (edges .entry)) «edge_count») self party node (now (values .entry))) ⌝ }
+        ensures { λ r. ⌜ Gets r (now (scratch .exit)) (getStep (lent n (now (intervals .entry)) (now (edges .entry)) «edge_count») self party node (now (values .entry)) (now (scratch .entry))) ⌝ }
     {
-        let short = values.len() < n;
-        let k = self.judge_value(n, intervals, edges, edge_count, party, node, short);
+        let few = values.len() < n;
+        let k = self.judge_value(n, intervals, edges, edge_count, party, node, few, scratch);
         if k == 14 {
             return GetStep {
                 desk: self,
@@ -361,7 +393,7 @@ impl Desk {
         }
     }
 
-    // A party that holds for writing replaces the value of a node inside its hold.
+    // A party that holds for writing replaces the value of a node in the reach of a name of its visit.
     pub fn put(
         self,
         n: usize,
@@ -372,11 +404,12 @@ impl Desk {
         node: usize,
         value: u64,
         values: &mut [u64],
+        scratch: &mut [u8],
     ) -> PutStep
-        ensures { λ r. ⌜ Puts r (now (values .exit)) (putStep (lent n (now (intervals .entry)) (now (edges .entry)) «edge_count») self party node value (now (values .entry))) ⌝ }
+        ensures { λ r. ⌜ Puts r (now (values .exit)) (now (scratch .exit)) (putStep (lent n (now (intervals .entry)) (now (edges .entry)) «edge_count») self party node value (now (values .entry)) (now (scratch .entry))) ⌝ }
     {
-        let short = values.len() < n;
-        let k = self.judge_value(n, intervals, edges, edge_count, party, node, short);
+        let few = values.len() < n;
+        let k = self.judge_value(n, intervals, edges, edge_count, party, node, few, scratch);
         if k != 0 {
             return PutStep {
                 desk: self,
@@ -404,7 +437,7 @@ impl Desk {
         }
     }
 
-    // A party that holds for adding adds to the value of a node inside its hold, modulo 2 to the 64.
+    // A party that holds for adding adds to the value of a node in the reach of a name of its visit, modulo 2 to the 64.
     pub fn add(
         self,
         n: usize,
@@ -415,11 +448,12 @@ impl Desk {
         node: usize,
         number: u64,
         values: &mut [u64],
+        scratch: &mut [u8],
     ) -> AddStep
-        ensures { λ r. ⌜ Adds r (now (values .exit)) (addStep (lent n (now (intervals .entry)) (now (edges .entry)) «edge_count») self party node number (now (values .entry))) ⌝ }
+        ensures { λ r. ⌜ Adds r (now (values .exit)) (now (scratch .exit)) (addStep (lent n (now (intervals .entry)) (now (edges .entry)) «edge_count») self party node number (now (values .entry)) (now (scratch .entry))) ⌝ }
     {
-        let short = values.len() < n;
-        let k = self.judge_value(n, intervals, edges, edge_count, party, node, short);
+        let few = values.len() < n;
+        let k = self.judge_value(n, intervals, edges, edge_count, party, node, few, scratch);
         if k != 0 {
             return AddStep {
                 desk: self,

@@ -1,7 +1,7 @@
-// The five steps called directly: above all what no block file can show, nine names or none, tables or buffers too short, all that is refused with 1, 5,
-// 6, 7 or 10, and counts of grants at their stop. Standard input has a line for each call; each is written out again with what the desk answers. A line's first letter says what it
-// does. Behind its word stand 22 digits of intervals, 22 of edges and 10 of names, then columns of numbers. Desk and values go on from line to line. Besides the steps there are
-// lines that make the desk by hand, one that shows the values, and one that shows what a listing has after its steps.
+// The five steps called directly: above all what no block file can show, nine names or none, tables or buffers too short, all that is refused with 1, 5, 6, 7 or 10, what a step
+// leaves in its scratch, and counts of grants at their stop. Standard input has a line for each call; each is written out again with what the desk answers. A line's first letter
+// says what it does. Behind its word stand 22 digits of intervals, 22 of edges and 10 of names, then columns of numbers. Desk and values go on from line to line. Besides the steps there
+// are lines that make the desk by hand, one that shows the values, and one that shows what a listing has after its steps.
 ghost use lib.ListN.{length};
 ghost use mathlib.Core.Path.{_≡_};
 ghost use Prim.Native.Nat.{_≤_};
@@ -12,9 +12,8 @@ use desk::EnterAnswer;
 use desk::GetAnswer;
 use desk::LeaveAnswer;
 use desk::PutAnswer;
-use locks::Mode;
 
-// The numbers of a line that every step takes, and four that a step has besides.
+// The numbers of a line that every step takes, and those that a step has besides: `given` is what put or add is given, `scratch` how many bytes of a scratch are lent.
 struct Call {
     n: usize,
     places: usize,
@@ -24,32 +23,22 @@ struct Call {
     lent: usize,
     first: usize,
     second: usize,
-    third: usize,
+    given: u64,
+    scratch: usize,
 }
 
-// What is said of an answer: which word, and its number.
-struct Said {
-    word: usize,
-    number: u64,
-}
-
-// LINES. The digit at a place of a line; 0 for a space, and behind the end.
-fn digit(line: &[u8], at: usize) -> u16
-    ensures { λ r. ⌜ r ≤ 15 ⌝ }
-{
-    (octets::byte(line, at) % 16) as u16
-}
-
-// The number in a column. Columns are five wide; a number has four digits at most.
+// LINES. The number in a column. Columns are five wide; a number has four digits at most, and a space, or what is behind the end, is 0.
 fn number(line: &[u8], k: usize) -> usize {
-    let at = k % 64 * 5 + 63;
-    let high = digit(line, at) * 1000 + digit(line, at + 1) * 100;
-    let low = digit(line, at + 2) * 10 + digit(line, at + 3);
+    let four = octets::number4(line, k % 64 * 5 + 63);
+    let high = four % 16 * 1000 + four / 256 % 16 * 100;
+    let low = four / 65536 % 16 * 10 + four / 16777216 % 16;
     (high + low) as usize
 }
 
-// What a line gives to its call.
+// What a line gives to its call. With a 1 behind it, the number for put or add is so many below the largest, which is the number with all its bits turned.
 fn taken(line: &[u8]) -> Call {
+    let second = number(line, 7);
+    let turned = std::num::wrapping_sub_u64(0, number(line, 8) as u64);
     Call {
         n: number(line, 0),
         places: number(line, 1),
@@ -58,8 +47,9 @@ fn taken(line: &[u8]) -> Call {
         party: number(line, 4),
         lent: number(line, 5),
         first: number(line, 6),
-        second: number(line, 7),
-        third: number(line, 8),
+        second,
+        given: turned ^ second as u64,
+        scratch: part(number(line, 9), 256, 300),
     }
 }
 
@@ -71,95 +61,62 @@ fn table(line: &[u8], part: usize, count: usize) -> [u16; 2050]
     let mut places = [0u16; 2050];
     let mut i = 0;
     while i < end {
-        places[i] = digit(line, part % 3 * 23 + i % 22 + 6);
+        places[i] = (octets::byte(line, part % 3 * 23 + i % 22 + 6) % 16) as u16;
         i += 1;
     }
     places
 }
 
-// ANSWERS, by the place of their word in `say`. What enter answered; with waiting goes how many wait.
-fn entered(answer: EnterAnswer, waiting: usize) -> Said {
+// ANSWERS are said, by the place of their word in `say`. What enter answered; with waiting goes how many wait.
+fn entered(answer: EnterAnswer, waiting: usize) {
     match answer {
-        EnterAnswer::Waits => Said {
-            word: 0,
-            number: waiting as u64,
-        },
-        EnterAnswer::Refused(k) => Said {
-            word: 2,
-            number: k as u64,
-        },
-        EnterAnswer::Granted(cover) => Said {
-            word: 3,
-            number: cover as u64,
-        },
+        EnterAnswer::Waits => say(0, waiting as u64),
+        EnterAnswer::Refused(k) => say(2, k as u64),
+        EnterAnswer::Granted(cover) => say(3, cover as u64),
     }
 }
 
 // What get answered; 14 is the number of waiting.
-fn got(answer: GetAnswer) -> Said {
+fn got(answer: GetAnswer) {
     match answer {
-        GetAnswer::Refused(k) => Said {
-            word: 2,
-            number: k as u64,
-        },
-        GetAnswer::Waiting => Said {
-            word: 4,
-            number: 14,
-        },
-        GetAnswer::Value(v) => Said { word: 5, number: v },
+        GetAnswer::Refused(k) => say(2, k as u64),
+        GetAnswer::Waiting => say(4, 14),
+        GetAnswer::Value(v) => say(5, v),
     }
 }
 
 // What put answered; with stored goes the number that was given.
-fn stored(answer: PutAnswer, given: u64) -> Said {
+fn stored(answer: PutAnswer, given: u64) {
     match answer {
-        PutAnswer::Stored => Said {
-            word: 1,
-            number: given,
-        },
-        PutAnswer::Refused(k) => Said {
-            word: 2,
-            number: k as u64,
-        },
+        PutAnswer::Stored => say(1, given),
+        PutAnswer::Refused(k) => say(2, k as u64),
     }
 }
 
 // What add answered; with added goes the number that was given.
-fn added(answer: AddAnswer, given: u64) -> Said {
+fn added(answer: AddAnswer, given: u64) {
     match answer {
-        AddAnswer::Added => Said {
-            word: 7,
-            number: given,
-        },
-        AddAnswer::Refused(k) => Said {
-            word: 2,
-            number: k as u64,
-        },
+        AddAnswer::Added => say(7, given),
+        AddAnswer::Refused(k) => say(2, k as u64),
     }
 }
 
 // What leave answered: the count of the granted.
-fn left(answer: LeaveAnswer) -> Said {
+fn left(answer: LeaveAnswer) {
     match answer {
-        LeaveAnswer::Refused(k) => Said {
-            word: 2,
-            number: k as u64,
-        },
-        LeaveAnswer::Left(count) => Said {
-            word: 6,
-            number: count as u64,
-        },
+        LeaveAnswer::Refused(k) => say(2, k as u64),
+        LeaveAnswer::Left(count) => say(6, count as u64),
     }
 }
 
 // Says an answer: its word, then its number.
-fn say(s: Said) {
+fn say(word: usize, number: u64) {
     let words =
-        *b":   waits :  stored : refused : granted : waiting :   value :    left :   added ";
-    let at = s.word % 8 * 10;
+        *b":   waits :  stored : refused : granted : waiting :   value :    left :   added : scratch ";
+    let at = word % 9 * 10;
     let end = at + 10;
     io::write_all(1, &words[at..end]);
-    io::print_decimal(1, s.number);
+    io::print_decimal(1, number);
 }
 
 // Says what a list holds.
@@ -172,40 +129,34 @@ fn say_list(list: &[u8; 34]) {
     }
 }
 
-// The mode that a line asks for: 1 reading, 3 adding, any other writing.
-fn mode(asked: usize) -> Mode {
-    if asked == 1 {
-        return Mode::Reading;
-    }
-    if asked == 3 {
-        return Mode::Adding;
-    }
-    Mode::Writing
-}
-
-// How many values a line lends of those that there are: ten where it does not say.
-fn values_lent(c: Call, all: usize) -> usize
+// How many a line lends of those that there are, as many as usual where it does not say.
+fn part(asked: usize, usual: usize, all: usize) -> usize
     ensures { λ r. ⌜ r ≤ all ⌝ }
 {
-    if c.lent == 0 {
-        return octets::least(10, all);
+    if asked == 0 {
+        return octets::least(usual, all);
     }
-    octets::least(c.lent, all)
+    octets::least(asked, all)
 }
 
-// The number that a line gives to put or add; with a 1 behind it, so many below the largest.
-fn given(c: Call) -> u64 {
-    if c.third == 1 {
-        return 18446744073709551615 - (c.second % 65536) as u64;
+// Says how many of the bytes that were lent of a scratch are not 0.
+fn say_scratch(scratch: &[u8; 300], lent: usize) {
+    let mut count = 0;
+    let mut i = 0;
+    while i < lent {
+        if octets::byte(scratch, i) != 0 {
+            count += 1;
+        }
+        i += 1;
     }
-    c.second as u64
+    say(8, count);
 }
 
-// STEPS. Enters, with so many names lent, a name count and a mode.
+// STEPS. Enters, with so many names lent, a name count and a mode: 1 reading, 3 adding, any other writing.
 fn enter(line: &[u8], c: Call, desk: Desk, intervals: &[u16], edges: &[u16]) -> Desk {
     let lent = c.lent % 11;
     let names = table(line, 2, lent);
-    let mode = mode(c.second);
+    let mode = locks::mode_when(c.second == 1, c.second != 3);
     let step = desk.enter(
         c.n,
         intervals,
@@ -218,12 +169,14 @@ fn enter(line: &[u8], c: Call, desk: Desk, intervals: &[u16], edges: &[u16]) -> 
     );
     let answer = step.answer;
     let next = step.desk;
-    say(entered(answer, next.waiting));
+    entered(answer, next.waiting);
     next
 }
 
-// Gets the value of a node.
+// Gets the value of a node. As for put and add, so many bytes are lent of a scratch that holds 7 everywhere, and what is left in them is said behind the answer.
 fn get(c: Call, desk: Desk, intervals: &[u16], edges: &[u16], values: &[u64]) -> Desk {
+    let mut scratch = [7u8; 300];
+    let lent = c.scratch % 301;
     let step = desk.get(
         c.n,
         intervals,
@@ -232,15 +185,18 @@ fn get(c: Call, desk: Desk, intervals: &[u16], edges: &[u16], values: &[u64]) ->
         c.party,
         c.first,
         values,
+        &mut scratch[0..lent],
     );
     let answer = step.answer;
-    say(got(answer));
+    got(answer);
+    say_scratch(&scratch, lent);
     step.desk
 }
 
 // Puts a number at a node.
 fn put(c: Call, desk: Desk, intervals: &[u16], edges: &[u16], values: &mut [u64]) -> Desk {
-    let number = given(c);
+    let mut scratch = [7u8; 300];
+    let lent = c.scratch % 301;
     let step = desk.put(
         c.n,
         intervals,
@@ -248,17 +204,20 @@ fn put(c: Call, desk: Desk, intervals: &[u16], edges: &[u16], values: &mut [u64]
         c.edge_count,
         c.party,
         c.first,
-        number,
+        c.given,
         values,
+        &mut scratch[0..lent],
     );
     let answer = step.answer;
-    say(stored(answer, number));
+    stored(answer, c.given);
+    say_scratch(&scratch, lent);
     step.desk
 }
 
 // Adds a number at a node.
 fn add(c: Call, desk: Desk, intervals: &[u16], edges: &[u16], values: &mut [u64]) -> Desk {
-    let number = given(c);
+    let mut scratch = [7u8; 300];
+    let lent = c.scratch % 301;
     let step = desk.add(
         c.n,
         intervals,
@@ -266,11 +225,13 @@ fn add(c: Call, desk: Desk, intervals: &[u16], edges: &[u16], values: &mut [u64]
         c.edge_count,
         c.party,
         c.first,
-        number,
+        c.given,
         values,
+        &mut scratch[0..lent],
     );
     let answer = step.answer;
-    say(added(answer, number));
+    added(answer, c.given);
+    say_scratch(&scratch, lent);
     step.desk
 }
 
@@ -288,7 +249,7 @@ fn leave(c: Call, desk: Desk, intervals: &[u16], edges: &[u16]) -> Desk {
     );
     let answer = step.answer;
     say_list(&list);
-    say(left(answer));
+    left(answer);
     step.desk
 }
 
@@ -314,23 +275,20 @@ fn counts(c: Call, desk: Desk) -> Desk {
 }
 
 // Says the values that are lent.
-fn say_values(desk: Desk, values: &[u64]) -> Desk {
+fn say_values(values: &[u64]) {
     let mut i = 0;
     while i < values.len() {
         io::write_all(1, b" ");
         io::print_decimal(1, values[i]);
         i += 1;
     }
-    desk
 }
 
-// Says the lines that a listing has after its steps: holders, waiters and grants, and each party's grants.
+// Says the lines that a listing has after its steps, behind the end of this one: holders, waiters and grants, and each party's grants. They are shorter than 800 bytes.
 fn show(desk: Desk) -> Desk {
-    let mut text = [0u8; 800];
-    let end = texts::put_end(desk, 0, &mut text);
-    let shown = octets::least(end, 800);
-    io::write_all(1, b"\n");
-    io::write_all(1, &text[0..shown]);
+    let mut text = [b'\n'; 800];
+    let end = texts::put_end(desk, 1, &mut text) % 801;
+    io::write_all(1, &text[0..end]);
     desk
 }
 
@@ -351,7 +309,10 @@ fn perform(
         b'l' => leave(c, desk, intervals, edges),
         b'd' => by_hand(c, desk),
         b'c' => counts(c, desk),
-        b'v' => say_values(desk, values),
+        b'v' => {
+            say_values(values);
+            desk
+        }
         b's' => show(desk),
         b'f' => Desk::fresh(),
         _ => desk,
@@ -365,7 +326,7 @@ fn answer(line: &[u8], desk: Desk, values: &mut [u64]) -> Desk {
     let intervals = table(line, 0, places);
     let ends = c.ends % 2051;
     let edges = table(line, 1, ends);
-    let lent = values_lent(c, values.len());
+    let lent = part(c.lent, 10, values.len());
     perform(
         line,
         c,

@@ -12,13 +12,14 @@ use Rattle.octets.specs.Fletcher.{words, sums, fletcher}
 use Rattle.blocks.specs.Record.{enterRight, kinds, rowIn, recordRight, inOrder}
 use Rattle.blocks.specs.Block.{afterRecord, afterRecords, countRight, headRight, afterBlock, blockBody, blockOf}
 use Rattle.blocks.specs.File.{afterBlocks, notBlocks, recordsWrong, writeRefusal}
+use Rattle.naming.specs.Names.{insert, insertAll, risesFrom}
 use Rattle.parties.specs.Sound.{soundParties}
 use Rattle.examples.specs.Cases.{sameNumbers}
 use Rattle.examples.specs.Rows.{right}
 use Rattle.examples.specs.Edges.{edges, blockEdges, recordEdges, soundEdges}
 
 pub all-edges : every right edges ≡ true
-unfolding allBelow anyBelow every any sum refusal someEdge spread spreads reach edgeTwice someUnreached notBlocks soundParties right edges
+unfolding allBelow anyBelow every any sum refusal someEdge spread spreads reach edgeTwice someUnreached notBlocks insert insertAll risesFrom soundParties right edges
 all-edges = refl
 
 pub all-block-edges : every right blockEdges ≡ true
@@ -31,7 +32,7 @@ unfolding every refusal enterRight kinds rowIn recordRight inOrder afterRecord a
 all-record-edges = refl
 
 pub all-sound-edges : every right soundEdges ≡ true
-unfolding allBelow anyBelow every any soundParties sameNumbers right soundEdges
+unfolding allBelow anyBelow every any insert insertAll risesFrom soundParties sameNumbers right soundEdges
 all-sound-edges = refl
 
 -- 2, bytes not 1 to 128 whole blocks: no file of 128 blocks, and every file of 129

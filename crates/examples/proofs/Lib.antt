@@ -5,3 +5,4 @@ pub mod Visits
 pub mod Hierarchies
 pub mod Files
 pub mod Steps
+pub mod Names

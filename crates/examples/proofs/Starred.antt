@@ -12,6 +12,7 @@ use Rattle.octets.specs.Fletcher.{words, sums, fletcher}
 use Rattle.blocks.specs.Record.{enterRight, kinds, rowIn, recordRight, inOrder}
 use Rattle.blocks.specs.Block.{afterRecord, afterRecords, countRight, headRight, afterBlock, recordsIn, blockBody, blockOf}
 use Rattle.blocks.specs.File.{afterBlocks, recordsOf, notBlocks, blocksOf}
+use Rattle.naming.specs.Names.{insert, insertAll, risesFrom}
 use Rattle.parties.specs.Sound.{soundParties}
 use Rattle.sweeps.specs.Sweeps.{offer, sweep}
 use Rattle.grants.specs.Grants.{countGrants}
@@ -25,7 +26,7 @@ pub all-starred : every passes starred ≡ true
 unfolding allBelow anyBelow every any keep count sum over foldFrom least greatest refusal children someEdge spread spreads reach edgeTwice
     someUnreached meet visit inside walk numbering numbersAmong lowOf highOf intervalsFrom intervalTable closest buildStep words sums
     fletcher enterRight kinds rowIn recordRight inOrder afterRecord afterRecords countRight headRight afterBlock recordsIn blockBody blockOf afterBlocks
-    recordsOf notBlocks blocksOf soundParties enterStep getStep putStep addStep offer sweep countGrants leaveStep eachRecord edgeTable lend restored lentTo afterEnter afterGet afterPut afterAdd listed afterLeave
+    recordsOf notBlocks blocksOf insert insertAll risesFrom soundParties enterStep getStep putStep addStep offer sweep countGrants leaveStep eachRecord edgeTable lend restored lentTo afterEnter afterGet afterPut afterAdd listed afterLeave
     moveCall move alsoRan run
     runRecords runFile sameNumbers asNumbers sameAnswers unrefused wrote spans disjoint withGrants gave passes fileT fileShared starred
 all-starred = refl

@@ -14,10 +14,12 @@ use Rattle.locks.specs.declared.Mode.{Mode}
 use Rattle.locks.specs.declared.Mode.the-variants.{Reading, Writing, Adding}
 use Rattle.locks.specs.declared.Stage.the-variants.{Waiting, Holding}
 use Rattle.desk.specs.declared.Desk.{Desk}
+use Rattle.naming.specs.declared.Names.{Names}
+use Rattle.naming.specs.Names.{named}
 use Rattle.locks.specs.Locks.{conflictCall}
 use Rattle.locks.specs.Lent.{Hierarchy, lent, tablesShort, intervalWrong}
 use Rattle.parties.specs.Parties.{entryOf}
-use Rattle.parties.specs.Sound.{listsParties, listsOnce, listsWaiting, intervalsReal, coversRight, holdersApart, waitersHeldUp}
+use Rattle.parties.specs.Sound.{listsParties, listsOnce, listsWaiting, intervalsReal, coversRight, namesKept, namesCovered, holdersApart, waitersHeldUp}
 use Rattle.desk.specs.Desks.{freshDesk}
 use Rattle.desk.specs.Sound.{soundDesk}
 use Rattle.grants.specs.Grants.{noGrants, oneGrantMore}
@@ -26,7 +28,11 @@ use Rattle.replay.specs.Replay.{granted, waits, value, stored, added, left, ref
 use Rattle.examples.specs.Cases.{Case, listing}
 use Rattle.examples.specs.Rows.{Row, is, are}
 use Rattle.examples.specs.Table.{bytes16, edge, enter1, get, put, leave, add, size}
-use Rattle.examples.specs.Steps.{lock, seat, list}
+use Rattle.examples.specs.Steps.{locked, lock, seat, list}
+
+-- names with another count
+abbrev pub recounted : Names → ℕ → Names
+recounted m count = record { a = m .a; b = m .b; c = m .c; d = m .d; e = m .e; f = m .f; g = m .g; h = m .h; count = count }
 
 -- two nodes and one edge, with these intervals
 abbrev pub two : List ℕ → Hierarchy
@@ -44,17 +50,18 @@ entering party names nameCount = numberOf (enterRefusal ones freshDesk party nam
 abbrev pub holding : Desk
 holding = seat freshDesk 1 (Holding (lock Writing 1 1 1))
 
--- what its get of node 1 is refused with, lent so many values
-abbrev pub getLent : ℕ → ℕ
-getLent values = numberOf (refusal (valueChecks ones holding 1 1 (replicate values 0) (getOwn holding 1)))
+-- what its get of node 1 is refused with, lent so many values and so many bytes for the search
+abbrev pub getLent : ℕ → ℕ → ℕ
+getLent values room = numberOf (refusal (valueChecks ones holding 1 1 (replicate values 0) (replicate room 0) (getOwn holding 1)))
 
 -- its put
-abbrev pub putLent : ℕ → ℕ
-putLent values = numberOf (refusal (valueChecks ones holding 1 1 (replicate values 0) (putOwn holding 1)))
+abbrev pub putLent : ℕ → ℕ → ℕ
+putLent values room = numberOf (refusal (valueChecks ones holding 1 1 (replicate values 0) (replicate room 0) (putOwn holding 1)))
 
 -- its add, where it holds the node for adding
-abbrev pub addLent : ℕ → ℕ
-addLent values = let d = seat freshDesk 1 (Holding (lock Adding 1 1 1)) in numberOf (refusal (valueChecks ones d 1 1 (replicate values 0) (addOwn d 1)))
+abbrev pub addLent : ℕ → ℕ → ℕ
+addLent values room =
+    let d = seat freshDesk 1 (Holding (lock Adding 1 1 1)) in numberOf (refusal (valueChecks ones d 1 1 (replicate values 0) (replicate room 0) (addOwn d 1)))
 
 -- its leave, lent so many bytes
 abbrev pub leaveLent : ℕ → ℕ
@@ -73,13 +80,16 @@ edges =
     ∷ is (one (tablesShort ones)) 0
     ∷ is (one (tablesShort (two (replicate 3 1)))) 1
     ∷ is (one (tablesShort (lent 2 (replicate 4 1) (0 ∷ []) 1))) 1
-    -- get, put and add also the n values
-    ∷ is (getLent 2) 0
-    ∷ is (getLent 1) 1
-    ∷ is (putLent 2) 0
-    ∷ is (putLent 1) 1
-    ∷ is (addLent 2) 0
-    ∷ is (addLent 1) 1
+    -- get, put and add also the n values, and a scratch of 256 bytes
+    ∷ is (getLent 2 256) 0
+    ∷ is (getLent 1 256) 1
+    ∷ is (getLent 2 255) 1
+    ∷ is (putLent 2 256) 0
+    ∷ is (putLent 1 256) 1
+    ∷ is (putLent 2 255) 1
+    ∷ is (addLent 2 256) 0
+    ∷ is (addLent 1 256) 1
+    ∷ is (addLent 2 255) 1
     -- enter as many names as its name count says
     ∷ is (entering 1 (1 ∷ []) 1) 0
     ∷ is (entering 1 [] 1) 1
@@ -271,7 +281,7 @@ recordEdges =
     ∷ is (writingRecords (size 2 ++ leave 0 ++ size 2) 3 512) 4
     ∷ []
 
--- A SOUND DESK: whether each of its seven clauses holds, in the paper's order, and then whether the desk is sound
+-- A SOUND DESK: whether each of its nine clauses holds, in the paper's order, those of 02's point 6 behind the covers, and then whether the desk is sound
 abbrev pub clauses : Hierarchy → Desk → List ℕ
 clauses H d =
     one (listsParties (d .queue) (d .waiting))
@@ -279,6 +289,8 @@ clauses H d =
     ∷ one (listsWaiting (d .entries) (d .queue) (d .waiting))
     ∷ one (intervalsReal (d .entries))
     ∷ one (coversRight H (d .entries))
+    ∷ one (namesKept H (d .entries))
+    ∷ one (namesCovered H (d .entries))
     ∷ one (holdersApart (d .entries))
     ∷ one (waitersHeldUp (d .entries) (d .queue) (d .waiting))
     ∷ one (soundDesk H d)
@@ -286,11 +298,11 @@ clauses H d =
 
 -- all hold
 abbrev pub allHold : List ℕ
-allHold = replicate 8 1
+allHold = replicate 10 1
 
 -- all hold but one, counted from 0
 abbrev pub allBut : ℕ → List ℕ
-allBut clause = set (set allHold clause 0) 7 0
+allBut clause = set (set allHold clause 0) 9 0
 
 -- a party waits for node 1, but is not listed
 abbrev pub callsUnlisted : Desk → ℕ → Mode → Desk
@@ -316,6 +328,22 @@ oneMore = record { entries = blocked .entries ++ (entryOf (Waiting (lock Reading
 abbrev pub reader : Desk
 reader = holdsNode freshDesk 1 Reading 1 1
 
+-- both nodes with interval [2,3], and one more behind the table
+abbrev pub threes : Hierarchy
+threes = two (2 ∷ 3 ∷ 2 ∷ 3 ∷ 2 ∷ 3 ∷ [])
+
+-- party 1 writes in node 1, with the interval [2,3], for these names
+abbrev pub naming : List ℕ → Desk
+naming names = seat freshDesk 1 (Holding (locked Writing 1 2 3 names))
+
+-- with another count of them
+abbrev pub counted : List ℕ → ℕ → Desk
+counted names count = seat freshDesk 1 (Holding (record { mode = Writing; cover = 1; low = 2; high = 3; names = recounted (named names) count }))
+
+-- party 2 waits to read in node 1, for these names, which 1 writes
+abbrev pub waitingFor : List ℕ → Desk
+waitingFor names = list (seat holding 2 (Waiting (locked Reading 1 1 1 names))) 2
+
 -- each clause of a sound desk by itself: a desk that it alone rejects, beside one that is sound
 unfoldable pub soundEdges : List Row
 soundEdges =
@@ -330,7 +358,7 @@ soundEdges =
     -- and in arrival order just the waiting ones: 3 waits and is listed; it waits and is not; it is out and listed, and so not held up either
     ∷ are (clauses ones (callsListed blocked 3 Reading)) allHold
     ∷ are (clauses ones (callsUnlisted blocked 3 Reading)) (allBut 2)
-    ∷ are (clauses ones (list blocked 3)) (set (allBut 2) 6 0)
+    ∷ are (clauses ones (list blocked 3)) (set (allBut 2) 8 0)
     -- its intervals lie in 1 to 256, low at most high: [1,256], [1,257], [0,1], [2,2], [2,1], each the cover's own
     ∷ are (clauses (two (1 ∷ 256 ∷ 1 ∷ 256 ∷ [])) (holdsNode freshDesk 1 Writing 1 256)) allHold
     ∷ are (clauses (two (1 ∷ 256 ∷ 1 ∷ 257 ∷ [])) (holdsNode freshDesk 1 Writing 1 257)) (allBut 3)
@@ -339,26 +367,46 @@ soundEdges =
     ∷ are (clauses (two (1 ∷ 256 ∷ 2 ∷ 1 ∷ [])) (holdsNode freshDesk 1 Writing 2 1)) (allBut 3)
     -- a cover is below n: 1 of two nodes, and 2, where [1,1] stands behind the table
     ∷ are (clauses (two (replicate 6 1)) (seat freshDesk 1 (Holding (lock Writing 1 1 1)))) allHold
-    ∷ are (clauses (two (replicate 6 1)) (seat freshDesk 1 (Holding (lock Writing 2 1 1)))) (allBut 4)
-    -- and has the hold's interval: [2,3] of a cover with [2,3], with [1,3] and with [2,4]
-    ∷ are (clauses (two (1 ∷ 9 ∷ 2 ∷ 3 ∷ [])) (holdsNode freshDesk 1 Writing 2 3)) allHold
-    ∷ are (clauses (two (1 ∷ 9 ∷ 1 ∷ 3 ∷ [])) (holdsNode freshDesk 1 Writing 2 3)) (allBut 4)
-    ∷ are (clauses (two (1 ∷ 9 ∷ 2 ∷ 4 ∷ [])) (holdsNode freshDesk 1 Writing 2 3)) (allBut 4)
+    ∷ are (clauses (two (replicate 6 1)) (seat freshDesk 1 (Holding (locked Writing 2 1 1 (1 ∷ []))))) (allBut 4)
+    -- and has the hold's interval: [2,3] of a cover with [2,3], with [1,3] and with [2,4], where node 0, which is named, has [2,3]
+    ∷ are (clauses (two (2 ∷ 3 ∷ 2 ∷ 3 ∷ [])) (naming (0 ∷ []))) allHold
+    ∷ are (clauses (two (2 ∷ 3 ∷ 1 ∷ 3 ∷ [])) (naming (0 ∷ []))) (allBut 4)
+    ∷ are (clauses (two (2 ∷ 3 ∷ 2 ∷ 4 ∷ [])) (naming (0 ∷ []))) (allBut 4)
+    -- each hold keeps its names, 1 to 8: none, one, two, and two with a count of 9, all names behind the second being 0
+    ∷ are (clauses threes (naming [])) (allBut 5)
+    ∷ are (clauses threes (naming (1 ∷ []))) allHold
+    ∷ are (clauses threes (naming (0 ∷ 1 ∷ []))) allHold
+    ∷ are (clauses threes (counted (0 ∷ 1 ∷ []) 9)) (allBut 5)
+    -- each below n: 1 of two nodes, and 2, where [2,3] stands behind the table
+    ∷ are (clauses threes (naming (0 ∷ 2 ∷ []))) (allBut 5)
+    -- ascending, and each once: 1 and 0, 1 twice; behind the count may stand anything
+    ∷ are (clauses threes (naming (1 ∷ 0 ∷ []))) (allBut 5)
+    ∷ are (clauses threes (naming (1 ∷ 1 ∷ []))) (allBut 5)
+    ∷ are (clauses threes (counted (1 ∷ 0 ∷ []) 1)) allHold
+    -- the cover's interval contains theirs: of node 0, which is named with node 1, [2,3], then [1,3] and [2,4]
+    ∷ are (clauses (two (2 ∷ 3 ∷ 2 ∷ 3 ∷ [])) (naming (0 ∷ 1 ∷ []))) allHold
+    ∷ are (clauses (two (1 ∷ 3 ∷ 2 ∷ 3 ∷ [])) (naming (0 ∷ 1 ∷ []))) (allBut 6)
+    ∷ are (clauses (two (2 ∷ 4 ∷ 2 ∷ 3 ∷ [])) (naming (0 ∷ 1 ∷ []))) (allBut 6)
+    -- the same of a waiting call, beside one who writes
+    ∷ are (clauses ones (waitingFor (0 ∷ 1 ∷ []))) allHold
+    ∷ are (clauses ones (waitingFor (1 ∷ 0 ∷ []))) (allBut 5)
+    ∷ are (clauses ones (waitingFor [])) (allBut 5)
+    ∷ are (clauses (two (1 ∷ 2 ∷ 1 ∷ 1 ∷ [])) (waitingFor (0 ∷ []))) (allBut 6)
     -- no two holders conflict: two readers of node 1, a reader and a writer
     ∷ are (clauses ones (holdsNode reader 3 Reading 1 1)) allHold
-    ∷ are (clauses ones (holdsNode reader 3 Writing 1 1)) (allBut 5)
+    ∷ are (clauses ones (holdsNode reader 3 Writing 1 1)) (allBut 7)
     -- two who add; one who adds, and a reader
     ∷ are (clauses ones (holdsNode (holdsNode freshDesk 1 Adding 1 1) 3 Adding 1 1)) allHold
-    ∷ are (clauses ones (holdsNode reader 3 Adding 1 1)) (allBut 5)
+    ∷ are (clauses ones (holdsNode reader 3 Adding 1 1)) (allBut 7)
     -- each waiter conflicts with a holder: beside a reader one that writes, and one that reads
     ∷ are (clauses ones (callsListed reader 2 Writing)) allHold
-    ∷ are (clauses ones (callsListed reader 2 Reading)) (allBut 6)
+    ∷ are (clauses ones (callsListed reader 2 Reading)) (allBut 8)
     -- and beside one who adds one that reads, and one that adds
     ∷ are (clauses ones (callsListed (holdsNode freshDesk 1 Adding 1 1) 2 Reading)) allHold
-    ∷ are (clauses ones (callsListed (holdsNode freshDesk 1 Adding 1 1) 2 Adding)) (allBut 6)
+    ∷ are (clauses ones (callsListed (holdsNode freshDesk 1 Adding 1 1) 2 Adding)) (allBut 8)
     -- or an earlier waiter: the one that reads behind the one that writes, and before it
     ∷ are (clauses ones (callsListed (callsListed reader 2 Writing) 3 Reading)) allHold
-    ∷ are (clauses ones (callsListed (callsListed reader 3 Reading) 2 Writing)) (allBut 6)
+    ∷ are (clauses ones (callsListed (callsListed reader 3 Reading) 2 Writing)) (allBut 8)
     ∷ []
 
 -- STEPS. 11 to 18 by the steps of a file over table T: each refused beside one that is not

@@ -10,12 +10,13 @@ use Rattle.locks.specs.declared.Stage.{Stage}
 use Rattle.locks.specs.declared.Stage.the-variants.{Out, Waiting, Holding}
 use Rattle.parties.specs.declared.Entry.{Entry}
 use Rattle.desk.specs.declared.Desk.{Desk}
+use Rattle.naming.specs.Names.{placesOf, named}
 use Rattle.locks.specs.Lent.{Hierarchy, lent}
 use Rattle.parties.specs.Parties.{entryOf}
 use Rattle.desk.specs.Desks.{freshDesk}
 use Rattle.desk.specs.Sound.{soundDesk}
 use Rattle.locks.specs.Locks.{modeNumber}
-use Rattle.desk.specs.Steps.{enterStep, getStep, putStep, addStep, LeaveResult, leaveStep}
+use Rattle.desk.specs.Steps.{enterStep, getStep, PutResult, putStep, addStep, LeaveResult, leaveStep}
 use Rattle.runs.specs.Run.{listed}
 use Rattle.replay.specs.Replay.{StepAnswer, granted, waits, value, stored, added, left, refused, enterLine, getLine, putLine, addLine, leaveLine, stateOf, perform}
 use Rattle.examples.specs.Table.{T, bytes16, size, edge, enter1, get, put, leave, add}
@@ -29,9 +30,13 @@ intervalsT = 1 ∷ 4 ∷ 1 ∷ 2 ∷ 3 ∷ 4 ∷ 1 ∷ 1 ∷ 2 ∷ 2 ∷ 3 ∷ 3
 abbrev pub tableT : Hierarchy
 tableT = lent 10 intervalsT T 11
 
--- a lock
+-- a lock, with these names
+abbrev pub locked : Mode → ℕ → ℕ → ℕ → List ℕ → Lock
+locked mode cover low high names = record { mode = mode; cover = cover; low = low; high = high; names = named names }
+
+-- one that names its cover
 abbrev pub lock : Mode → ℕ → ℕ → ℕ → Lock
-lock mode cover low high = record { mode = mode; cover = cover; low = low; high = high }
+lock mode cover low high = locked mode cover low high (cover ∷ [])
 
 -- DESKS BY HAND. With another stage for a party
 abbrev pub seat : Desk → ℕ → Stage → Desk
@@ -49,24 +54,24 @@ counting d waiting = record { entries = d .entries; queue = d .queue; waiting = 
 abbrev pub granting : Desk → ℕ → ℕ → Desk
 granting d party count = record { entries = d .entries; queue = d .queue; waiting = d .waiting; grants = set (d .grants) party count }
 
--- a desk after three enters: 1 writes 5, 3 reads 3, and 2 waits to read 2
+-- a desk after three enters: 1 writes in 5, for 7, 3 reads 3, and 2 waits to read in 2, for 6
 abbrev pub three : Desk
 three =
     granting
     (granting
-    (list (seat (seat (seat freshDesk 1 (Holding (lock Writing 5 3 3))) 3 (Holding (lock Reading 3 1 1))) 2 (Waiting (lock Reading 2 3 4))) 2)
+    (list (seat (seat (seat freshDesk 1 (Holding (locked Writing 5 3 3 (7 ∷ [])))) 3 (Holding (lock Reading 3 1 1))) 2 (Waiting (locked Reading 2 3 4 (6 ∷ [])))) 2)
     1 1)
     3 1
 
--- and after four: 4 waits to read 0, behind 2
+-- and after four: 4 waits to read in 0, for 4 and 5, behind 2
 abbrev pub four : Desk
-four = list (seat three 4 (Waiting (lock Reading 0 1 4))) 4
+four = list (seat three 4 (Waiting (locked Reading 0 1 4 (4 ∷ 5 ∷ [])))) 4
 
--- 1 adds in 5 and 3 in 2, both at once; 2 waits to read 2, and 4, behind it, to add in 0
+-- 1 adds in 5, for 9, and 3 in 2, both at once; 2 waits to read 2, and 4, behind it, to add in 0
 abbrev pub adders : Desk
 adders =
     list (list
-    (seat (seat (seat (seat freshDesk 1 (Holding (lock Adding 5 3 3))) 3 (Holding (lock Adding 2 3 4))) 2 (Waiting (lock Reading 2 3 4))) 4 (Waiting (lock Adding 0 1 4)))
+    (seat (seat (seat (seat freshDesk 1 (Holding (locked Adding 5 3 3 (9 ∷ [])))) 3 (Holding (lock Adding 2 3 4))) 2 (Waiting (lock Reading 2 3 4))) 4 (Waiting (lock Adding 0 1 4)))
     2) 4
 
 -- the desk after an enter over T
@@ -78,11 +83,15 @@ abbrev pub stepped : Desk
 stepped =
     afterEnter (afterEnter (afterEnter (afterEnter freshDesk 1 Writing (7 ∷ [])) 2 Reading (6 ∷ [])) 3 Reading (3 ∷ [])) 4 Reading (4 ∷ 5 ∷ [])
 
--- a stage as numbers: out, waiting or holding, then the lock with its mode's number
+-- a lock as numbers, with its mode's number, the places of its names and their count
+abbrev pub lockNumbers : Lock → List ℕ
+lockNumbers l = modeNumber (l .mode) ∷ l .cover ∷ l .low ∷ l .high ∷ l .names .count ∷ placesOf (l .names)
+
+-- a stage as numbers: out, waiting or holding, then the lock
 abbrev pub stageNumbers : Stage → List ℕ
 stageNumbers Out = 0 ∷ []
-stageNumbers (Waiting l) = 1 ∷ modeNumber (l .mode) ∷ l .cover ∷ l .low ∷ l .high ∷ []
-stageNumbers (Holding l) = 2 ∷ modeNumber (l .mode) ∷ l .cover ∷ l .low ∷ l .high ∷ []
+stageNumbers (Waiting l) = 1 ∷ lockNumbers l
+stageNumbers (Holding l) = 2 ∷ lockNumbers l
 
 -- the stages of all parties
 unfoldable pub allStages : List Entry → List ℕ
@@ -93,21 +102,25 @@ allStages (e ∷ es) = stageNumbers (e .stage) ++ allStages es
 unfoldable pub deskNumbers : Desk → List ℕ
 deskNumbers d = d .waiting ∷ d .grants ++ (d .queue ++ allStages (d .entries))
 
--- STEPS over T, with ten values of 100 and 32 bytes. Enter, with as many names as lent and a name count
+-- STEPS over T, with ten values of 100, 256 bytes of 7 for the search and 32 bytes for the list. Enter, with as many names as lent and a name count
 abbrev pub enters : Desk → ℕ → List ℕ → ℕ → List StepAnswer
 enters d party names nameCount = enterLine ((enterStep tableT d party Reading names nameCount) .answer) ∷ []
 
 -- get of so many values
 abbrev pub gets : ℕ → Desk → ℕ → ℕ → List StepAnswer
-gets values d party node = getLine ((getStep tableT d party node (replicate values 100)) .answer) ∷ []
+gets values d party node = getLine ((getStep tableT d party node (replicate values 100) (replicate 256 7)) .answer) ∷ []
 
 -- put to so many values
 abbrev pub puts : ℕ → Desk → ℕ → ℕ → List StepAnswer
-puts values d party node = putLine ((putStep tableT d party node 1 (replicate values 100)) .answer) ∷ []
+puts values d party node = putLine ((putStep tableT d party node 1 (replicate values 100) (replicate 256 7)) .answer) ∷ []
 
 -- add to so many values
 abbrev pub adds : ℕ → Desk → ℕ → ℕ → List StepAnswer
-adds values d party node = addLine ((addStep tableT d party node 1 (replicate values 100)) .answer) ∷ []
+adds values d party node = addLine ((addStep tableT d party node 1 (replicate values 100) (replicate 256 7)) .answer) ∷ []
+
+-- a number added to node 9 of these values
+abbrev pub addsTo : Desk → ℕ → ℕ → List ℕ → PutResult
+addsTo d party number values = addStep tableT d party 9 number values (replicate 256 7)
 
 -- enter with a mode and one name
 abbrev pub entersAs : Mode → Desk → ℕ → ℕ → List StepAnswer
@@ -125,9 +138,9 @@ leaves bytes d party = leftLine (leaveStep tableT d party (replicate bytes 170))
 abbrev pub allFive : Hierarchy → Desk → List StepAnswer
 allFive H d =
     enterLine ((enterStep H d 5 Writing (7 ∷ []) 1) .answer)
-    ∷ getLine ((getStep H d 1 9 (replicate 10 100)) .answer)
-    ∷ putLine ((putStep H d 1 9 77 (replicate 10 100)) .answer)
-    ∷ addLine ((addStep H d 1 9 77 (replicate 10 100)) .answer)
+    ∷ getLine ((getStep H d 1 9 (replicate 10 100) (replicate 256 7)) .answer)
+    ∷ putLine ((putStep H d 1 9 77 (replicate 10 100) (replicate 256 7)) .answer)
+    ∷ addLine ((addStep H d 1 9 77 (replicate 10 100) (replicate 256 7)) .answer)
     ∷ leftLine (leaveStep H d 1 (replicate 34 170))
     ∷ []
 
@@ -152,9 +165,9 @@ steps =
     ∷ answer (enters four 32 (replicate 8 3) 9) (refused 1 ∷ [])
     ∷ answer (enters four 1 (99 ∷ []) 18446744073709551615) (refused 1 ∷ [])
     -- 1: nine values, also where 11 or 17 holds
-    ∷ answer (gets 9 four 1 5) (refused 1 ∷ [])
-    ∷ answer (puts 9 four 1 5) (refused 1 ∷ [])
-    ∷ answer (gets 9 four 32 5) (refused 1 ∷ [])
+    ∷ answer (gets 9 four 1 9) (refused 1 ∷ [])
+    ∷ answer (puts 9 four 1 9) (refused 1 ∷ [])
+    ∷ answer (gets 9 four 32 9) (refused 1 ∷ [])
     ∷ answer (puts 9 four 3 3) (refused 1 ∷ [])
     -- 1: 31 bytes, also where 11 holds
     ∷ answer (leaves 31 four 1) (refused 1 ∷ [])
@@ -299,10 +312,10 @@ tables =
     -- 5
     ∷ answer (allFive (lent 0 intervalsT T 11) four) (all 5)
     ∷ answer (allFive (lent 0 [] [] 0) four) (all 5)
-    -- 6 before 7; a step does not look at 8
+    -- 6 before 7; a step does not look at 8, nor at 9
     ∷ answer (allFive (lent 10 intervalsT (replicate 2050 0) 1025) four) (all 6)
     ∷ answer (allFive (lent 10 intervalsT (replicate 2050 0) 1024) four) (all 7)
-    ∷ answer (allFive (lent 10 intervalsT (0 ∷ 1 ∷ 0 ∷ 1 ∷ []) 2) four) good
+    ∷ answer (allFive (lent 10 intervalsT (7 ∷ 9 ∷ 7 ∷ 9 ∷ []) 2) four) good
     -- 7: equal ends, child 0, a child and a parent not below n, a later edge; past the edge count it is not looked at; 7 before 10
     ∷ answer (edged (1 ∷ 1 ∷ []) 1) (all 7)
     ∷ answer (edged (1 ∷ 0 ∷ []) 1) (all 7)
@@ -358,15 +371,15 @@ desks =
     ∷ is (sound (counting four 18446744073709551615)) 0
     ∷ is (sound (counting four 4294967298)) 0
     -- a holder's cover not below n, or with another interval
-    ∷ is (sound (seat four 3 (Holding (lock Reading 10 1 1)))) 0
-    ∷ is (sound (seat four 3 (Holding (lock Reading 65535 1 1)))) 0
+    ∷ is (sound (seat four 3 (Holding (locked Reading 10 1 1 (3 ∷ []))))) 0
+    ∷ is (sound (seat four 3 (Holding (locked Reading 65535 1 1 (3 ∷ []))))) 0
     ∷ is (sound (seat four 3 (Holding (lock Reading 3 1 2)))) 0
     ∷ is (sound (seat four 3 (Holding (lock Reading 4 1 2)))) 0
     ∷ is (sound (seat four 3 (Holding (lock Reading 3 0 1)))) 0
     -- the same of a waiter's
     ∷ is (sound (seat four 4 (Waiting (lock Writing 0 1 4)))) 1
-    ∷ is (sound (seat four 4 (Waiting (lock Writing 10 1 1)))) 0
-    ∷ is (sound (seat four 4 (Waiting (lock Writing 0 1 3)))) 0
+    ∷ is (sound (seat four 4 (Waiting (locked Writing 10 1 1 (3 ∷ []))))) 0
+    ∷ is (sound (seat four 4 (Waiting (locked Writing 0 1 3 (3 ∷ []))))) 0
     ∷ is (sound (seat four 4 (Waiting (lock Writing 1 1 4)))) 0
     -- holders that conflict: two readers do not; a writer with a reader, on one node and on two; two writers
     ∷ is (sound (seat four 5 (Holding (lock Reading 3 1 1)))) 1
@@ -402,16 +415,16 @@ desks =
     -- what is left of 34 bytes of 170 and of ten values of 100: two bytes and one value are written, none where the step is refused
     ∷ are ((leaveStep tableT four 1 (replicate 34 170)) .list) (2 ∷ 4 ∷ replicate 32 170)
     ∷ are ((leaveStep tableT four 5 (replicate 34 170)) .list) (replicate 34 170)
-    ∷ are ((putStep tableT four 1 9 77 (replicate 10 100)) .values) (replicate 9 100 ++ (77 ∷ []))
-    ∷ are ((putStep tableT four 3 3 1 (replicate 10 100)) .values) (replicate 10 100)
+    ∷ are ((putStep tableT four 1 9 77 (replicate 10 100) (replicate 256 7)) .values) (replicate 9 100 ++ (77 ∷ []))
+    ∷ are ((putStep tableT four 3 3 1 (replicate 10 100) (replicate 256 7)) .values) (replicate 10 100)
     -- of twelve, an add leaves the sum at its node, modulo 2 to the 64; nothing where it is refused
-    ∷ are ((addStep tableT adders 1 9 77 (replicate 12 100)) .values) (replicate 9 100 ++ (177 ∷ 100 ∷ 100 ∷ []))
-    ∷ are ((addStep tableT adders 3 9 77 ((addStep tableT adders 1 9 5 (replicate 10 100)) .values)) .values) (replicate 9 100 ++ (182 ∷ []))
-    ∷ are ((addStep tableT adders 1 9 18446744073709551515 (replicate 10 100)) .values) (replicate 9 100 ++ (18446744073709551615 ∷ []))
-    ∷ are ((addStep tableT adders 1 9 18446744073709551516 (replicate 10 100)) .values) (replicate 9 100 ++ (0 ∷ []))
-    ∷ are ((addStep tableT adders 1 9 18446744073709551615 (replicate 10 100)) .values) (replicate 9 100 ++ (99 ∷ []))
-    ∷ are ((addStep tableT four 1 9 77 (replicate 10 100)) .values) (replicate 10 100)
-    ∷ are (deskNumbers ((addStep tableT adders 1 9 77 (replicate 10 100)) .desk)) (deskNumbers adders)
+    ∷ are ((addsTo adders 1 77 (replicate 12 100)) .values) (replicate 9 100 ++ (177 ∷ 100 ∷ 100 ∷ []))
+    ∷ are ((addsTo adders 3 77 ((addsTo adders 1 5 (replicate 10 100)) .values)) .values) (replicate 9 100 ++ (182 ∷ []))
+    ∷ are ((addsTo adders 1 18446744073709551515 (replicate 10 100)) .values) (replicate 9 100 ++ (18446744073709551615 ∷ []))
+    ∷ are ((addsTo adders 1 18446744073709551516 (replicate 10 100)) .values) (replicate 9 100 ++ (0 ∷ []))
+    ∷ are ((addsTo adders 1 18446744073709551615 (replicate 10 100)) .values) (replicate 9 100 ++ (99 ∷ []))
+    ∷ are ((addsTo four 1 77 (replicate 10 100)) .values) (replicate 10 100)
+    ∷ are (deskNumbers ((addsTo adders 1 77 (replicate 10 100)) .desk)) (deskNumbers adders)
     -- when 3 and 1 have left, 2 reads; when 2 leaves, 4 adds, which 2 held up
     ∷ are ((leaveStep tableT adders 3 (replicate 32 0)) .list) (replicate 32 0)
     ∷ answer (leaves 32 ((leaveStep tableT adders 3 (replicate 32 0)) .desk) 1) (left (2 ∷ []) ∷ [])
@@ -451,7 +464,7 @@ records =
     -- party 3 leaves, and nobody is granted: 2 and 4 still conflict with 1. Party 5 reads 3 beside it
     answer (performing tableT (leave 3)) (left [] ∷ [])
     ∷ answer (performing tableT (enter1 5 1 3)) (granted 3 ∷ [])
-    -- 1 writes 5, [3,3]: 9 lies inside it
+    -- 1 writes in 5, for 7, which reaches 9
     ∷ answer (performing tableT (get 1 9)) (value 100 ∷ [])
     ∷ answer (performing tableT (put 1 9 77)) (stored ∷ [])
     ∷ are (performedTo tableT (put 1 9 77)) (deskNumbers four ++ set (replicate 10 100) 9 77)

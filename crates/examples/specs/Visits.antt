@@ -3,7 +3,7 @@ use mathlib.Core.List.{List, [], _∷_, _++_}
 use Prim.Native.Nat.{ℕ}
 use Rattle.replay.specs.Replay.{granted, waits, value, stored, added, left, refused}
 use Rattle.examples.specs.Cases.{Case, listing}
-use Rattle.examples.specs.Table.{size, edge, enter1, enter2, get, put, leave, add, addMost}
+use Rattle.examples.specs.Table.{bytes16, size, edge, enter1, enter2, get, put, leave, add, addMost}
 
 -- the records of T
 abbrev pub recordsT : List (List ℕ)
@@ -59,6 +59,39 @@ minutes =
     ∷ put 5 9 0
     ∷ []
 
+-- 1 names 6 and reads in 2: not 5, whose interval lies inside its hold, nor 2, its cover, but what 6 reaches. 2 waits with 8, 3 and 8 again in 0 and, when it is let
+-- in, writes 8 and 3 and nothing else; when it comes again, for 4, it has that one name
+abbrev pub onlyNamed : List (List ℕ)
+onlyNamed =
+    enter1 1 1 6
+    ∷ get 1 5
+    ∷ get 1 2
+    ∷ get 1 6
+    ∷ get 1 7
+    ∷ get 1 8
+    ∷ get 1 9
+    ∷ bytes16 (3 ∷ 2 ∷ 2 ∷ 3 ∷ 8 ∷ 3 ∷ 8 ∷ [])
+    ∷ put 2 8 5
+    ∷ leave 1
+    ∷ put 2 8 5
+    ∷ put 2 3 6
+    ∷ put 2 9 7
+    ∷ put 2 4 7
+    ∷ put 2 0 7
+    ∷ get 2 8
+    ∷ get 2 3
+    ∷ leave 2
+    ∷ enter1 2 3 4
+    ∷ add 2 4 1
+    ∷ add 2 3 1
+    ∷ add 2 8 1
+    ∷ enter1 3 1 0
+    ∷ leave 2
+    ∷ get 3 3
+    ∷ get 3 4
+    ∷ get 3 0
+    ∷ []
+
 -- the cases
 unfoldable pub visits : List Case
 visits =
@@ -73,4 +106,9 @@ visits =
     (granted 5 ∷ granted 5 ∷ added ∷ waits ∷ waits ∷ added ∷ added ∷ refused 18 ∷ refused 18
     ∷ left [] ∷ left (3 ∷ []) ∷ value 11 ∷ refused 18 ∷ refused 17 ∷ left (4 ∷ []) ∷ added ∷ left [] ∷ granted 5 ∷ value 12 ∷ refused 18 ∷ stored ∷ [])
     1 0 5 (1 ∷ 1 ∷ 2 ∷ 1 ∷ 3 ∷ 1 ∷ 4 ∷ 1 ∷ 5 ∷ 1 ∷ [])
+    ∷ listing (recordsT ++ onlyNamed)
+    (granted 2 ∷ refused 16 ∷ refused 16 ∷ value 0 ∷ value 0 ∷ value 0 ∷ value 0
+    ∷ waits ∷ refused 14 ∷ left (2 ∷ []) ∷ stored ∷ stored ∷ refused 16 ∷ refused 16 ∷ refused 16 ∷ value 5 ∷ value 6 ∷ left []
+    ∷ granted 4 ∷ added ∷ refused 16 ∷ refused 16 ∷ waits ∷ left (3 ∷ []) ∷ value 6 ∷ value 1 ∷ value 0 ∷ [])
+    1 0 4 (1 ∷ 1 ∷ 2 ∷ 2 ∷ 3 ∷ 1 ∷ [])
     ∷ []

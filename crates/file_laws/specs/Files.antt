@@ -12,9 +12,9 @@ use Rattle.history.specs.Serial.{SerialSteps}
 -- the event of a call that was refused
 abbrev pub refusedEvent : Call → ℕ → Event ℕ
 refusedEvent (enter party mode names nameCount) k = entered party (denied k)
-refusedEvent (get party node l) k = got party node (denied k)
-refusedEvent (put party node number l) k = wrote party node number (denied k)
-refusedEvent (add party node number l) k = summed party node number (denied k)
+refusedEvent (get party node l scratch) k = got party node (denied k)
+refusedEvent (put party node number l scratch) k = wrote party node number (denied k)
+refusedEvent (add party node number l scratch) k = summed party node number (denied k)
 refusedEvent (leave party list) k = gone party (denied k)
 
 -- the event of a step record and its answer: which step it is, the party, the node and number given, and the answer.

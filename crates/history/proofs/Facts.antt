@@ -27,7 +27,7 @@ use Rattle.parties.proofs.Clauses.{clauses}
 use Rattle.sweeps.specs.Sweeps.{Sweep, staysWaiting, isGranted, offerIf, offerTo, offer, sweep}
 use Rattle.desk.specs.Desks.{stageAt}
 use Rattle.desk.specs.Sound.{soundDesk}
-use Rattle.desk.specs.Steps.{StepFacts, NodeFacts, valueChecks}
+use Rattle.desk.specs.Steps.{StepFacts, NodeFacts, valuesShort, valueChecks}
 use Rattle.locks.proofs.Tables.{not-wrong}
 use Rattle.desk.proofs.Facts.{step-own, step-facts, node-own-none, node-facts}
 use Rattle.history.specs.History.{begun, visited}
@@ -150,12 +150,12 @@ right-ordered H right node h =
     leb-true low high (and-right (leb 1 low) (leb low high) (and-left (leb 1 low && leb low high) (leb high 256) (not-wrong H node right h .0)))
 
 -- WHAT A GET, PUT OR ADD THAT IS NOT REFUSED KNOWS, over the tables as lent: what every step knows, and what it knows of its node
-pub record Touch (H : Hierarchy) (d : Desk) (party node : ℕ) (values : List ℕ) : Type 0 where
-  pub step : StepFacts H d party (ltb (length values) (H .n))
+pub record Touch (H : Hierarchy) (d : Desk) (party node : ℕ) (values scratch : List ℕ) : Type 0 where
+  pub step : StepFacts H d party (valuesShort H values scratch)
   pub at-node : NodeFacts H d party node
 
-module _ (H : Hierarchy) (d : Desk) (party node : ℕ) (values : List ℕ) (own : List Check) (e : refusal (valueChecks H d party node values own) ≡ none) where
-  pub touch : Touch H d party node values
+module _ (H : Hierarchy) (d : Desk) (party node : ℕ) (values scratch : List ℕ) (own : List Check) (e : refusal (valueChecks H d party node values scratch own) ≡ none) where
+  pub touch : Touch H d party node values scratch
   touch = record { step = step-facts H d party _ _ e; at-node = node-facts H d party node own (step-own H d party _ _ e) }
 
   -- its own check refuses nothing either

@@ -12,10 +12,10 @@ use borrow.Author.Tests.{eqb-true, eqb-false}
 use Rattle.lists.specs.Lists.{one, count, over}
 use Rattle.lists.specs.Answer.{refusal}
 use Rattle.locks.specs.declared.Lock.{Lock}
-use Rattle.locks.specs.Lent.{Hierarchy, coverIn, lockOn}
+use Rattle.locks.specs.Lent.{Hierarchy, lockFor}
 use Rattle.grants.specs.Grants.{oneGrantMore, countGrant, countGrants}
 use Rattle.desk.specs.declared.Desk.{Desk}
-use Rattle.desk.specs.Steps.{free, enterRefusal, enterIf, enterUnless, enterStep, valueChecks, getOwn, getUnless, getStep, putOwn, putUnless, putStep}
+use Rattle.desk.specs.Steps.{free, enterRefusal, enterIf, enterUnless, enterStep, valueChecks, scratchLeft, getOwn, getUnless, getStep, putOwn, putUnless, putStep}
 use Rattle.desk.specs.Steps.{sum64, addOwn, addStep, afterLeaving, leaveRefusal, leaveUnless, leaveStep}
 use Rattle.runs.specs.Run.{lend, Call, enter, get, put, add, leave, State, Moved, listed, lentTo, afterEnter, afterGet, afterPut, afterAdd, afterLeave, moveCall, move}
 use Rattle.runs.specs.Run.{Step, alsoRan, run}
@@ -69,20 +69,20 @@ module _ (s : State) where
       by true = refl
       by false = refl
 
-  get-counts : (party node value : ℕ) (o : Option ℕ) → Counts s (afterGet party node s (getUnless o d value))
+  get-counts : (party node value : ℕ) (scratch : List ℕ) (o : Option ℕ) → Counts s (afterGet party node s (getUnless o d value scratch))
   unfolding countGrants grantedBy afterGet
-  get-counts party node value (some k) = refl
-  get-counts party node value none = refl
+  get-counts party node value scratch (some k) = refl
+  get-counts party node value scratch none = refl
 
-  put-counts : (party node value : ℕ) (values : List ℕ) (o : Option ℕ) → Counts s (afterPut party node value s (putUnless o d node value values))
+  put-counts : (party node value : ℕ) (values scratch : List ℕ) (o : Option ℕ) → Counts s (afterPut party node value s (putUnless o d node value values scratch))
   unfolding countGrants grantedBy afterPut
-  put-counts party node value values (some k) = refl
-  put-counts party node value values none = refl
+  put-counts party node value values scratch (some k) = refl
+  put-counts party node value values scratch none = refl
 
-  add-counts : (party node number sum : ℕ) (values : List ℕ) (o : Option ℕ) → Counts s (afterAdd party node number s (putUnless o d node sum values))
+  add-counts : (party node number sum : ℕ) (values scratch : List ℕ) (o : Option ℕ) → Counts s (afterAdd party node number s (putUnless o d node sum values scratch))
   unfolding countGrants grantedBy afterAdd
-  add-counts party node number sum values (some k) = refl
-  add-counts party node number sum values none = refl
+  add-counts party node number sum values scratch (some k) = refl
+  add-counts party node number sum values scratch none = refl
 
   leave-counts : (party : ℕ) (list : List ℕ) (o : Option ℕ) → Counts s (afterLeave party s (leaveUnless o d party list))
   unfolding countGrants grantedBy afterLeave listed over
@@ -93,13 +93,16 @@ module _ (s : State) where
 
   call-counts : (H : Hierarchy) (c : Call) → Counts s (moveCall H c s)
   unfolding moveCall enterStep getStep putStep addStep leaveStep
-  call-counts H (enter party mode names nameCount) = enter-counts party (lockOn H mode (coverIn H (take nameCount names))) (enterRefusal H d party names nameCount)
-  call-counts H (get party node l) = get-counts party node (getD (lend (s .values) l) node 0) (refusal (valueChecks H d party node (lend (s .values) l) (getOwn d party)))
-  call-counts H (put party node value l) =
-      put-counts party node value (lend (s .values) l) (refusal (valueChecks H d party node (lend (s .values) l) (putOwn d party)))
-  call-counts H (add party node number l) =
+  call-counts H (enter party mode names nameCount) = enter-counts party (lockFor H mode (take nameCount names)) (enterRefusal H d party names nameCount)
+  call-counts H (get party node l c) =
       let values : List ℕ = lend (s .values) l in
-      add-counts party node number (sum64 (getD values node 0) number) values (refusal (valueChecks H d party node values (addOwn d party)))
+      get-counts party node (getD values node 0) (scratchLeft H values c) (refusal (valueChecks H d party node values c (getOwn d party)))
+  call-counts H (put party node value l c) =
+      let values : List ℕ = lend (s .values) l in
+      put-counts party node value values (scratchLeft H values c) (refusal (valueChecks H d party node values c (putOwn d party)))
+  call-counts H (add party node number l c) =
+      let values : List ℕ = lend (s .values) l in
+      add-counts party node number (sum64 (getD values node 0) number) values (scratchLeft H values c) (refusal (valueChecks H d party node values c (addOwn d party)))
   call-counts H (leave party list) = leave-counts party list (leaveRefusal H d party list)
 
 -- and so does a list, from any hierarchy, desk and values, refused steps included

@@ -1,6 +1,6 @@
 -- DEMAND 3 of a host's own list of calls, from its results alone: `results-serial`, and `results-demand-3` from zeros; and that each run is such a list:
 -- `run-made`. Assumes nothing.
-use mathlib.Core.Path.{_≡_, refl, sym, ap, subst, _∙_}
+use mathlib.Core.Path.{_≡_, refl, sym, ap, ap₂, subst, _∙_}
 use mathlib.Core.Logic.{_⊎_, inl, inr}
 use mathlib.Core.List.{List, [], _∷_, _++_}
 use mathlib.Core.Bool.{Bool, true, false, _||_}
@@ -18,7 +18,7 @@ use Rattle.lists.proofs.Refusals.{refused-here}
 use Rattle.hierarchy.specs.Hierarchy.{edgesOf}
 use Rattle.interval_laws.proofs.Laws.{taken}
 use Rattle.locks.specs.declared.Mode.{Mode}
-use Rattle.locks.specs.Lent.{Hierarchy, lent, coverIn, tablesShort, lockOn}
+use Rattle.locks.specs.Lent.{Hierarchy, lent, tablesShort, lockFor}
 use Rattle.desk.specs.declared.Desk.{Desk}
 use Rattle.desk.specs.declared.EnterAnswer.{EnterAnswer}
 use Rattle.desk.specs.declared.EnterAnswer.the-variants.{Granted, Waits, Refused as EnterRefused}
@@ -29,7 +29,7 @@ use Rattle.desk.specs.declared.AddAnswer.the-variants.{Added, Refused as AddRef
 use Rattle.desk.specs.declared.LeaveAnswer.{LeaveAnswer}
 use Rattle.desk.specs.declared.LeaveAnswer.the-variants.{Left, Refused as LeaveRefused}
 use Rattle.desk.specs.Desks.{freshDesk}
-use Rattle.desk.specs.Steps.{Admission, granted, waits, PutResult}
+use Rattle.desk.specs.Steps.{Admission, granted, waits, PutResult, valuesShort, searchAfter}
 use Rattle.desk.specs.Steps.{enterUnless, enterStep, getUnless, getStep, putUnless, putStep, sum64, addStep, leaveUnless, leaveStep}
 use Rattle.desk.specs.Answers.{enterMeaning, getMeaning, putMeaning, addMeaning, leaveMeaning, getCase}
 use Rattle.runs.specs.Run.{Lending, whole, part, lend, restored, Call, enter, get, put, add, leave, Step, lentTo, Event, entered, got, stored, added, left, State, start}
@@ -38,7 +38,8 @@ use Rattle.runs.proofs.Lends.{restored-lend, put-length, add-length}
 use Rattle.history.specs.Serial.{Built, Serial, SerialSteps}
 use Rattle.history.specs.Results.{LentOf, leftIn, Result, enter as entering, get as getting, put as putting, add as adding, leave as leaving, Made, Meets}
 use Rattle.history.specs.Results.{deskFrom, valuesFrom, toldBy, AllMeet, toldByAll, lastDesk, lastValues}
-use Rattle.history.proofs.Serializable.{built-two-each, serializable}
+use Rattle.history.proofs.Nested.{built-nested}
+use Rattle.history.proofs.Serializable.{serializable}
 
 -- BUFFERS. How one was lent of a table
 abbrev lending : List ℕ → List ℕ → Lending
@@ -89,21 +90,25 @@ module _ (K : Hierarchy) (d : Desk) (party : ℕ) where
       → enterStep K d party mode names nameCount ≡ record { desk = d; answer = refused 1 }
   unfolding enterStep
   short-enter mode names nameCount e =
-      ap (λ (o : Option ℕ). enterUnless o d party (lockOn K mode (coverIn K (take nameCount names)))) (refused-here _ _ (rw e refl))
+      ap (λ (o : Option ℕ). enterUnless o d party (lockFor K mode (take nameCount names))) (refused-here _ _ (rw e refl))
 
-  short-get : (node : ℕ) (values : List ℕ) → (tablesShort K || ltb (length values) (K .n)) ≡ true → getStep K d party node values ≡ record { desk = d; answer = refused 1 }
+  pub short-get : (node : ℕ) (values scratch : List ℕ) → (tablesShort K || valuesShort K values scratch) ≡ true
+      → getStep K d party node values scratch ≡ record { desk = d; scratch = scratch; answer = refused 1 }
   unfolding getStep
-  short-get node values e = ap (λ (o : Option ℕ). getUnless o d (getD values node 0)) (refused-here _ _ e)
+  short-get node values scratch e =
+      ap₂ (λ (o : Option ℕ) (b : Bool). getUnless o d (getD values node 0) (searchAfter b scratch)) (refused-here _ _ e) e
 
-  pub short-put : (node value : ℕ) (values : List ℕ) → (tablesShort K || ltb (length values) (K .n)) ≡ true
-      → putStep K d party node value values ≡ record { desk = d; values = values; answer = refused 1 }
+  pub short-put : (node value : ℕ) (values scratch : List ℕ) → (tablesShort K || valuesShort K values scratch) ≡ true
+      → putStep K d party node value values scratch ≡ record { desk = d; values = values; scratch = scratch; answer = refused 1 }
   unfolding putStep
-  short-put node value values e = ap (λ (o : Option ℕ). putUnless o d node value values) (refused-here _ _ e)
+  short-put node value values scratch e =
+      ap₂ (λ (o : Option ℕ) (b : Bool). putUnless o d node value values (searchAfter b scratch)) (refused-here _ _ e) e
 
-  pub short-add : (node number : ℕ) (values : List ℕ) → (tablesShort K || ltb (length values) (K .n)) ≡ true
-      → addStep K d party node number values ≡ record { desk = d; values = values; answer = refused 1 }
+  pub short-add : (node number : ℕ) (values scratch : List ℕ) → (tablesShort K || valuesShort K values scratch) ≡ true
+      → addStep K d party node number values scratch ≡ record { desk = d; values = values; scratch = scratch; answer = refused 1 }
   unfolding addStep
-  short-add node number values e = ap (λ (o : Option ℕ). putUnless o d node (sum64 (getD values node 0) number) values) (refused-here _ _ e)
+  short-add node number values scratch e =
+      ap₂ (λ (o : Option ℕ) (b : Bool). putUnless o d node (sum64 (getD values node 0) number) values (searchAfter b scratch)) (refused-here _ _ e) e
 
   short-leave : (list : List ℕ) → tablesShort K ≡ true → leaveStep K d party list ≡ record { desk = d; list = list; answer = refused 1 }
   unfolding leaveStep
@@ -152,13 +157,13 @@ module _ (K K′ : Hierarchy) (alike : Alike K K′) (d : Desk) (party : ℕ) wh
       by (inr (a, b)) = short-leave K′ d party list b ∙ sym (short-leave K d party list a)
 
   -- and neither tells get, put and add what the values are where they are too short
-  module _ (values buffer : List ℕ) (lent-of : LentOf values buffer) (sized : length values ≡ K .n) (same-n : K′ .n ≡ K .n) where
+  module _ (values buffer scratch : List ℕ) (lent-of : LentOf values buffer) (sized : length values ≡ K .n) (same-n : K′ .n ≡ K .n) where
     abbrev buffer′ : List ℕ
     buffer′ = lend values (lending values buffer)
 
     -- both are refused with 1, or they are one
     abbrev Either : Type 0
-    Either = (((tablesShort K || ltb (length buffer) (K .n)) ≡ true) × ((tablesShort K′ || ltb (length buffer′) (K′ .n)) ≡ true))
+    Either = (((tablesShort K || valuesShort K buffer scratch) ≡ true) × ((tablesShort K′ || valuesShort K′ buffer′ scratch) ≡ true))
         ⊎ ((K ≡ K′) × (buffer′ ≡ buffer) × (length values ≤ length buffer))
 
     either-by : Alike K K′ → LentOf values buffer → Either
@@ -167,20 +172,20 @@ module _ (K K′ : Hierarchy) (alike : Alike K K′) (d : Desk) (party : ℕ) wh
         let few = lend-short values buffer h in
         let a : ltb (length buffer) (K .n) ≡ true = lt-ltb (length buffer) (K .n) (omega (arith, h, sized)) in
         let b : ltb (length buffer′) (K′ .n) ≡ true = lt-ltb (length buffer′) (K′ .n) (omega (arith, few, sized, same-n)) in
-        inl (or-second (tablesShort K) _ a, or-second (tablesShort K′) _ b)
+        inl (or-second (tablesShort K) _ (rw a refl), or-second (tablesShort K′) _ (rw b refl))
     either-by (inl e) (inr q) = inr (e, lend-all values buffer q, omega (arith, ap length q, length-take (length values) buffer))
 
-    get-by : (node : ℕ) → Either → getStep K′ d party node buffer′ ≡ getStep K d party node buffer
-    get-by node (inl (a, b)) = short-get K′ d party node buffer′ b ∙ sym (short-get K d party node buffer a)
-    get-by node (inr (e, f, h)) = ap (λ (X : Hierarchy). getStep X d party node buffer′) (sym e) ∙ ap (getStep K d party node) f
+    get-by : (node : ℕ) → Either → getStep K′ d party node buffer′ scratch ≡ getStep K d party node buffer scratch
+    get-by node (inl (a, b)) = short-get K′ d party node buffer′ scratch b ∙ sym (short-get K d party node buffer scratch a)
+    get-by node (inr (e, f, h)) = ap (λ (X : Hierarchy). getStep X d party node buffer′ scratch) (sym e) ∙ ap (λ (v : List ℕ). getStep K d party node v scratch) f
 
-    get-alike : (node : ℕ) → getStep K′ d party node buffer′ ≡ getStep K d party node buffer
+    get-alike : (node : ℕ) → getStep K′ d party node buffer′ scratch ≡ getStep K d party node buffer scratch
     get-alike node = get-by node (either-by alike lent-of)
 
     -- a put or add hands back the same desk and answer, and leaves the same values: of a step f over a hierarchy and what it is lent of the values, which
     -- leaves all where it is lent too little, and leaves as many values as it was lent
     module _ (f : Hierarchy → List ℕ → PutResult)
-        (short : (X : Hierarchy) (b : List ℕ) → (tablesShort X || ltb (length b) (X .n)) ≡ true → f X b ≡ record { desk = d; values = b; answer = refused 1 })
+        (short : (X : Hierarchy) (b : List ℕ) → (tablesShort X || valuesShort X b scratch) ≡ true → f X b ≡ record { desk = d; values = b; scratch = scratch; answer = refused 1 })
         (long : (X : Hierarchy) (b : List ℕ) → length ((f X b) .values) ≡ length b) where
       abbrev ChangesAlike : Type 0
       ChangesAlike =
@@ -191,7 +196,7 @@ module _ (K K′ : Hierarchy) (alike : Alike K K′) (d : Desk) (party : ℕ) wh
       changes-by (inl (a, b)) =
           let p = short K buffer a in
           let p′ = short K′ buffer′ b in (
-            ap (λ (x : PutResult). x .desk) (p′ ∙ sym (ap (λ (y : PutResult). record { desk = y .desk; values = buffer′; answer = y .answer }) p)),
+            ap (λ (x : PutResult). x .desk) (p′ ∙ sym (ap (λ (y : PutResult). record { desk = y .desk; values = buffer′; scratch = y .scratch; answer = y .answer }) p)),
             ap (λ (x : PutResult). x .answer) p′ ∙ sym (ap (λ (x : PutResult). x .answer) p),
             ap (λ (x : PutResult). restored values (x .values)) p′ ∙ restored-lend values (lending values buffer) ∙ sym (left-same values buffer lent-of)
                 ∙ sym (ap (λ (x : PutResult). leftIn values (x .values)) p),
@@ -210,9 +215,9 @@ module _ (K K′ : Hierarchy) (alike : Alike K K′) (d : Desk) (party : ℕ) wh
 -- A CALL as a step of a list
 callFor : List ℕ → Result → Call
 callFor values (entering party mode names nameCount r) = enter party mode names nameCount
-callFor values (getting party node buffer r) = get party node (lending values buffer)
-callFor values (putting party node value buffer r after) = put party node value (lending values buffer)
-callFor values (adding party node number buffer r after) = add party node number (lending values buffer)
+callFor values (getting party node buffer scratch r used) = get party node (lending values buffer) scratch
+callFor values (putting party node value buffer scratch r after used) = put party node value (lending values buffer) scratch
+callFor values (adding party node number buffer scratch r after used) = add party node number (lending values buffer) scratch
 callFor values (leaving party list r after) = leave party list
 
 stepFor : Hierarchy → List ℕ → Made → Step
@@ -247,16 +252,16 @@ module _ (H K K′ : Hierarchy) (alike : Alike K K′) (d : Desk) (values : List
   call-moves (entering party mode names nameCount r) (e, a) =
       ap (afterEnter party (between H d values)) (enter-alike K K′ alike d party mode names nameCount)
       ∙ moved-alike H (sym e) refl (sym (ap (entered party) a))
-  call-moves (getting party node buffer r) (l, (e, a, c)) =
-      ap (afterGet party node (between H d values)) (get-alike K K′ alike d party values buffer l sized same-n node)
+  call-moves (getting party node buffer scratch r used) (l, (e, a, c, u)) =
+      ap (afterGet party node (between H d values)) (get-alike K K′ alike d party values buffer scratch l sized same-n node)
       ∙ moved-alike H (sym e) refl (sym (ap (got party node) a))
-  call-moves (putting party node value buffer r after) (l, (e, a, v)) =
-      let p = changes-alike K K′ alike d party values buffer l sized same-n (λ X b. putStep X d party node value b)
-      (λ X b. short-put X d party node value b) (λ X b. put-length X d party node value b) in
+  call-moves (putting party node value buffer scratch r after used) (l, (e, a, v, u)) =
+      let p = changes-alike K K′ alike d party values buffer scratch l sized same-n (λ X b. putStep X d party node value b scratch)
+      (λ X b. short-put X d party node value b scratch) (λ X b. put-length X d party node value b scratch) in
       moved-alike H (p .0 ∙ sym e) (p .2 ∙ sym (ap (leftIn values) v)) (ap (stored party node value) (p .1 ∙ sym a))
-  call-moves (adding party node number buffer r after) (l, (e, a, v)) =
-      let p = changes-alike K K′ alike d party values buffer l sized same-n (λ X b. addStep X d party node number b)
-      (λ X b. short-add X d party node number b) (λ X b. add-length X d party node number b) in
+  call-moves (adding party node number buffer scratch r after used) (l, (e, a, v, u)) =
+      let p = changes-alike K K′ alike d party values buffer scratch l sized same-n (λ X b. addStep X d party node number b scratch)
+      (λ X b. short-add X d party node number b scratch) (λ X b. add-length X d party node number b scratch) in
       moved-alike H (p .0 ∙ sym e) (p .2 ∙ sym (ap (leftIn values) v)) (ap (added party node number) (p .1 ∙ sym a))
   call-moves (leaving party list r after) (e, a, v) =
       ap (afterLeave party (between H d values)) (leave-alike K K′ alike d party list)
@@ -269,9 +274,9 @@ left-sized values after =
 
 values-sized : (values : List ℕ) (r : Result) → length (valuesFrom values r) ≡ length values
 values-sized values (entering party mode names nameCount r) = refl
-values-sized values (getting party node buffer r) = refl
-values-sized values (putting party node value buffer r after) = left-sized values after
-values-sized values (adding party node number buffer r after) = left-sized values after
+values-sized values (getting party node buffer scratch r used) = refl
+values-sized values (putting party node value buffer scratch r after used) = left-sized values after
+values-sized values (adding party node number buffer scratch r after used) = left-sized values after
 values-sized values (leaving party list r after) = refl
 
 -- the calls of a list are those steps, one after the other
@@ -289,7 +294,7 @@ built-edges H b = length-take-le (2 * H .edgeCount) (H .edges) (taken (H .n) (H 
 
 pub results-run : (H : Hierarchy) → Built H → (values : List ℕ) → length values ≡ H .n → (made : List Made) → AllMeet H freshDesk values made
     → run (stepsFor H values made) (start H values) ≡ record { state = between H (lastDesk freshDesk made) (lastValues values made); events = toldByAll made }
-results-run H b values sized made met = calls-run H (built-two-each H b) (built-edges H b) made freshDesk values sized met
+results-run H b values sized made met = calls-run H (built-nested H b .two-each) (built-edges H b) made freshDesk values sized met
 
 -- THE THEOREM: over one built hierarchy, from a fresh desk and any n values, whatever calls were made, where each result meets the contract of its
 -- method: these very results are what whole visits, performed in order of granting, leave and find
@@ -349,14 +354,14 @@ leave-means (refused k) = refl
 resultFor : Hierarchy → Desk → List ℕ → Call → Result
 resultFor K d values (enter party mode names nameCount) =
     let s = enterStep K d party mode names nameCount in entering party mode names nameCount (record { desk = s .desk; answer = enterAnswer (s .answer) })
-resultFor K d values (get party node l) =
-    let s = getStep K d party node (lend values l) in getting party node (lend values l) (record { desk = s .desk; answer = getCase (s .answer) })
-resultFor K d values (put party node value l) =
-    let s = putStep K d party node value (lend values l) in
-    putting party node value (lend values l) (record { desk = s .desk; answer = putAnswer (s .answer) }) (s .values)
-resultFor K d values (add party node number l) =
-    let s = addStep K d party node number (lend values l) in
-    adding party node number (lend values l) (record { desk = s .desk; answer = addAnswer (s .answer) }) (s .values)
+resultFor K d values (get party node l c) =
+    let s = getStep K d party node (lend values l) c in getting party node (lend values l) c (record { desk = s .desk; answer = getCase (s .answer) }) (s .scratch)
+resultFor K d values (put party node value l c) =
+    let s = putStep K d party node value (lend values l) c in
+    putting party node value (lend values l) c (record { desk = s .desk; answer = putAnswer (s .answer) }) (s .values) (s .scratch)
+resultFor K d values (add party node number l c) =
+    let s = addStep K d party node number (lend values l) c in
+    adding party node number (lend values l) c (record { desk = s .desk; answer = addAnswer (s .answer) }) (s .values) (s .scratch)
 resultFor K d values (leave party list) =
     let s = leaveStep K d party list in leaving party list (record { desk = s .desk; answer = leaveAnswer (s .answer) }) (s .list)
 
@@ -364,21 +369,21 @@ resultFor K d values (leave party list) =
 result-meets : (K : Hierarchy) (d : Desk) (values : List ℕ) (c : Call) → Meets K d values (resultFor K d values c)
 unfolding resultFor
 result-meets K d values (enter party mode names nameCount) = (refl, enter-means _)
-result-meets K d values (get party node l) = (lend-lent values l, (refl, get-means _, refl))
-result-meets K d values (put party node value l) = (lend-lent values l, (refl, put-means _, refl))
-result-meets K d values (add party node number l) = (lend-lent values l, (refl, add-means _, refl))
+result-meets K d values (get party node l c) = (lend-lent values l, (refl, get-means _, refl, refl))
+result-meets K d values (put party node value l c) = (lend-lent values l, (refl, put-means _, refl, refl))
+result-meets K d values (add party node number l c) = (lend-lent values l, (refl, add-means _, refl, refl))
 result-meets K d values (leave party list) = (refl, leave-means _, refl)
 
 -- what is left in a buffer that was lent of the values, by a step that leaves all where the buffer is too short, and as many values as it was lent
-left-lent : (K : Hierarchy) (d : Desk) (values : List ℕ) → length values ≡ K .n → (l : Lending) (r : PutResult)
-    → ((tablesShort K || ltb (length (lend values l)) (K .n)) ≡ true → r ≡ record { desk = d; values = lend values l; answer = refused 1 })
+left-lent : (K : Hierarchy) (d : Desk) (values scratch : List ℕ) → length values ≡ K .n → (l : Lending) (r : PutResult)
+    → ((tablesShort K || valuesShort K (lend values l) scratch) ≡ true → r ≡ record { desk = d; values = lend values l; scratch = scratch; answer = refused 1 })
     → length (r .values) ≡ length (lend values l) → restored values (r .values) ≡ leftIn values (r .values)
-left-lent K d values sized l r short long =
+left-lent K d values scratch sized l r short long =
     bool (ltb (length (lend values l)) (length values))
     (λ e.
     let h : length (lend values l) < length values = ltb-true (length (lend values l)) (length values) e in
     let t : ltb (length (lend values l)) (K .n) ≡ true = lt-ltb (length (lend values l)) (K .n) (omega (arith, h, sized)) in
-    let p = short (or-second (tablesShort K) (ltb (length (lend values l)) (K .n)) t) in
+    let p = short (or-second (tablesShort K) _ (rw t refl)) in
     ap (λ (x : PutResult). restored values (x .values)) p ∙ restored-lend values l ∙ sym (left-same values (lend values l) (inl h))
     ∙ sym (ap (λ (x : PutResult). leftIn values (x .values)) p))
     (λ e. left-restored values (r .values) (omega (arith, ltb-false (length (lend values l)) (length values) e, long)))
@@ -388,14 +393,14 @@ result-moves : (H K : Hierarchy) (d : Desk) (values : List ℕ) → length value
     moveCall K c (between H d values) ≡ record { state = between H (deskFrom r) (valuesFrom values r); event = toldBy r }
 unfolding resultFor moveCall afterEnter afterGet afterPut afterAdd afterLeave
 result-moves H K d values sized (enter party mode names nameCount) = moved-alike H refl refl (ap (entered party) (sym (enter-means _)))
-result-moves H K d values sized (get party node l) = moved-alike H refl refl (ap (got party node) (sym (get-means _)))
-result-moves H K d values sized (put party node value l) =
+result-moves H K d values sized (get party node l c) = moved-alike H refl refl (ap (got party node) (sym (get-means _)))
+result-moves H K d values sized (put party node value l c) =
     moved-alike H refl
-    (left-lent K d values sized l (putStep K d party node value (lend values l)) (short-put K d party node value (lend values l)) (put-length K d party node value (lend values l)))
+    (left-lent K d values c sized l (putStep K d party node value (lend values l) c) (short-put K d party node value (lend values l) c) (put-length K d party node value (lend values l) c))
     (ap (stored party node value) (sym (put-means _)))
-result-moves H K d values sized (add party node number l) =
+result-moves H K d values sized (add party node number l c) =
     moved-alike H refl
-    (left-lent K d values sized l (addStep K d party node number (lend values l)) (short-add K d party node number (lend values l)) (add-length K d party node number (lend values l)))
+    (left-lent K d values c sized l (addStep K d party node number (lend values l) c) (short-add K d party node number (lend values l) c) (add-length K d party node number (lend values l) c))
     (ap (added party node number) (sym (add-means _)))
 result-moves H K d values sized (leave party list) = moved-alike H refl refl (left-alike party refl (sym (leave-means _)))
 

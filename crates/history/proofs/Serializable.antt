@@ -6,15 +6,14 @@ use mathlib.Core.Bool.{Bool, true, false, not, _||_, true≢false}
 use mathlib.Core.Option.{Option, none, some}
 use Prim.Native.Nat.{ℕ, suc, _+_, _*_, _≤_}
 use native.Mathlib.Omega.{arith}
-use lib.Dec.{eqb, leb}
+use lib.Dec.{eqb, leb, ltb}
 use lib.ListN.{length, getD, set, take, drop, replicate, length-set, length-replicate}
 use lib.Seq.{take-append-seam}
 use borrow.Author.Tests.{eqb-true, eqb-false, eq-eqb, leb-true, le-leb, ltb-false, not-false}
 use Rattle.lists.specs.Lists.{keep, over}
 use Rattle.lists.specs.Answer.{Check, refusal}
-use Rattle.lists.proofs.Bools.{and-left, and-right}
+use Rattle.lists.proofs.Bools.{and-left, and-right, or-left}
 use Rattle.lists.proofs.Refusals.{NoneHolds, refusal-none}
-use Rattle.interval_laws.proofs.Laws.{built-length, taken}
 use Rattle.locks.specs.declared.Mode.{Mode}
 use Rattle.locks.specs.declared.Mode.the-variants.{Reading, Writing, Adding}
 use Rattle.locks.specs.declared.Lock.{Lock}
@@ -22,7 +21,7 @@ use Rattle.locks.specs.declared.Stage.{Stage}
 use Rattle.locks.specs.declared.Stage.the-variants.{Out, Waiting, Holding}
 use Rattle.locks.specs.Locks.{compatible, share, conflict}
 use Rattle.locks.specs.Stages.{isReading, isAdding, readsOnly, addsOnly}
-use Rattle.locks.specs.Lent.{Hierarchy, lowIn, highIn, coverIn, lockOn, insideLock}
+use Rattle.locks.specs.Lent.{Hierarchy, lowIn, highIn, lockFor, insideLock}
 use Rattle.parties.specs.Parties.{entryOf}
 use Rattle.sweeps.specs.Sweeps.{Sweep, sweep}
 use Rattle.desk.specs.Steps.{getOwn, putOwn, addOwn, sum64, valueChecks, enterRefusal, leaveRefusal, free, grantTo, enterIf, enterUnless, enterStep}
@@ -39,6 +38,7 @@ use Rattle.desk.specs.declared.Desk.{Desk}
 use Rattle.desk.specs.Desks.{stageAt, queueOf}
 use Rattle.history.proofs.Rows.{compatible-sym, nodeOf, modeOf, Commute, Clear, Clear-map, Clear-new, Clear-granted, Clear-add}
 use Rattle.history.proofs.Rows.{Clear-visited, insert-leaves, insert-finds, append-leaves, append-finds, opsIn-add, opsIn-new, row-order}
+use Rattle.history.proofs.Nested.{Nested, built-nested, touch-inside}
 use Rattle.history.proofs.Modes.{is-adding, is-writing}
 use Rattle.history.proofs.Facts.{set-stage, holder-below, all-out, sweep-length, sweep-holds, holders-apart, right-ordered, Touch, touch, touch-own}
 
@@ -127,8 +127,8 @@ own-safe H l g o h i own c j =
 module _ (u : List ℕ) where
   -- THE INVARIANT between two steps. row: the book's; answered: the same with each get's answer noted; m: the gets, puts and adds not refused
   record Kept (s : State) (row : List (Transaction (Unit {0}))) (answered : List (Transaction ℕ)) (m : ℕ) : Type 0 where
-    -- the hierarchy has two numbers for each node
-    two-each : length (s .hierarchy .intervals) ≡ 2 * s .hierarchy .n
+    -- in the hierarchy the intervals lie one inside the other along reach
+    nested : Nested (s .hierarchy)
     sized : length (s .values) ≡ s .hierarchy .n
     parties : length (s .desk .entries) ≡ 32
     values : s .values ≡ serialLeaves u row
@@ -149,7 +149,7 @@ module _ (u : List ℕ) where
         → permits (l .mode) (modeOf o) ≡ true → ((q : ℕ) (g : Lock) → p ≢ q → stageAt (s .desk) q ≡ Holding g → conflict g l ≡ false)
         → Kept (record { hierarchy = H; desk = s .desk; values = leaves (s .values) o }) (addToLatest p o row) (addToLatest p (finds (s .values) o) notes) (suc m)
     touched p l o e h i own apart = record {
-      two-each = k .two-each;
+      nested = k .nested;
       sized = length-leaves (s .values) o ∙ k .sized;
       parties = k .parties;
       values = ap (λ w. leaves w o) (k .values) ∙ sym (insert-leaves u p o row mine);
@@ -170,7 +170,7 @@ module _ (u : List ℕ) where
         → ((q : ℕ) (l : Lock) → stageAt d q ≡ Holding l → (visited {A = Unit {0}} q (map begun qs) ≡ true) ⊎ (stageAt (s .desk) q ≡ Holding l))
         → Kept (record { hierarchy = H; desk = d; values = s .values }) (row ++ map begun qs) (notes ++ map begun qs) m
     granted-kept d qs long from = record {
-      two-each = k .two-each;
+      nested = k .nested;
       sized = k .sized;
       parties = long;
       values = k .values ∙ sym (append-leaves u row qs);
@@ -199,7 +199,7 @@ module _ (u : List ℕ) where
             new q g (inl e) = inl (rw (eq-eqb p q (e .0)))
             new q g (inr e) = inr e
         step false = record {
-          two-each = k .two-each;
+          nested = k .nested;
           sized = k .sized;
           parties = long (Waiting l);
           values = k .values;
@@ -240,79 +240,81 @@ module _ (u : List ℕ) where
         held q l (inr e) = inr (was q l (set-stage (s .desk .entries) p q Out l e))
 
     -- GET, PUT and ADD share this
-    touch-kept : (x : Step) (l : Lending) (p : ℕ) (o : Op (Unit {0})) → (t : Touch (lentTo x H) (s .desk) p (nodeOf o) (lend (s .values) l))
+    touch-kept : (x : Step) (l : Lending) (c : List ℕ) (p : ℕ) (o : Op (Unit {0})) → (t : Touch (lentTo x H) (s .desk) p (nodeOf o) (lend (s .values) l) c)
         → permits (t .at-node .hold .mode) (modeOf o) ≡ true
         → Kept (record { hierarchy = H; desk = s .desk; values = leaves (s .values) o }) (addToLatest p o row) (addToLatest p (finds (s .values) o) notes) (suc m)
     unfolding lentTo
-    touch-kept x l p o t own =
+    touch-kept x l c p o t own =
         let at-node = t .at-node in
-        let low = low-lent H (k .two-each) x (nodeOf o) (at-node .below) (t .step .intervals-lent) in
-        let high = high-lent H (k .two-each) x (nodeOf o) (at-node .below) (t .step .intervals-lent) in
+        let low = low-lent H (k .nested .two-each) x (nodeOf o) (at-node .below) (t .step .intervals-lent) in
+        let high = high-lent H (k .nested .two-each) x (nodeOf o) (at-node .below) (t .step .intervals-lent) in
         touched p (at-node .hold) o (at-node .holds) (rw (low, high) at (right-ordered (lentTo x H) (t .step .intervals-right) (nodeOf o) (at-node .below)))
-        (rw (low, high) at (at-node .inside)) own
+        (touch-inside H (k .nested) x (s .desk) p (nodeOf o) (lend (s .values) l) c t) own
         (λ q g ne e. holders-apart (lentTo x H) (s .desk) (t .step .sound) p q (at-node .hold) g (t .step .party-below)
         (omega (arith, holder-below (s .desk .entries) q g e, k .parties)) ne (at-node .holds) e)
 
     -- the n values are lent
-    enough : (x : Step) (l : Lending) (p node : ℕ) → Touch (lentTo x H) (s .desk) p node (lend (s .values) l) → length (s .values) ≤ length (lend (s .values) l)
+    enough : (x : Step) (l : Lending) (c : List ℕ) (p node : ℕ) → Touch (lentTo x H) (s .desk) p node (lend (s .values) l) c → length (s .values) ≤ length (lend (s .values) l)
     unfolding lentTo
-    enough x l p node t = let e = ltb-false (length (lend (s .values) l)) (H .n) (t .step .own-lent) in omega (arith, k .sized)
+    enough x l c p node t =
+        let e = ltb-false (length (lend (s .values) l)) (H .n) (or-left (ltb (length (lend (s .values) l)) (H .n)) (ltb (length c) 256) (t .step .own-lent)) in
+        omega (arith, k .sized)
 
-    get-kept : (x : Step) (l : Lending) (p node : ℕ) (o : Option ℕ)
-        → (o ≡ none → Touch (lentTo x H) (s .desk) p node (lend (s .values) l) × (addsOnly (stageAt (s .desk) p) ≡ false))
-        → Onward row notes m (afterGet p node s (getUnless o (s .desk) (getD (lend (s .values) l) node 0)))
+    get-kept : (x : Step) (l : Lending) (c left-over : List ℕ) (p node : ℕ) (o : Option ℕ)
+        → (o ≡ none → Touch (lentTo x H) (s .desk) p node (lend (s .values) l) c × (addsOnly (stageAt (s .desk) p) ≡ false))
+        → Onward row notes m (afterGet p node s (getUnless o (s .desk) (getD (lend (s .values) l) node 0) left-over))
     unfolding Onward afterGet noted counted bareEvent bare leaves finds nodeOf modeOf lentTo
-    get-kept x l p node (some n) t = k
-    get-kept x l p node none t =
+    get-kept x l c left-over p node (some n) t = k
+    get-kept x l c left-over p node none t =
         let (f, gets) = t refl in
-        rw (lend-at (s .values) l node (omega (arith, f .at-node .below, k .sized)) (enough x l p node f))
-        (touch-kept x l p (didGet node tt) f (may-get (f .at-node .hold .mode) (rw (f .at-node .holds) at gets)))
+        rw (lend-at (s .values) l node (omega (arith, f .at-node .below, k .sized)) (enough x l c p node f))
+        (touch-kept x l c p (didGet node tt) f (may-get (f .at-node .hold .mode) (rw (f .at-node .holds) at gets)))
 
-    put-kept : (x : Step) (l : Lending) (p node value : ℕ) (o : Option ℕ)
-        → (o ≡ none → Touch (lentTo x H) (s .desk) p node (lend (s .values) l) × (readsOnly (stageAt (s .desk) p) ≡ false) × (addsOnly (stageAt (s .desk) p) ≡ false))
-        → Onward row notes m (afterPut p node value s (putUnless o (s .desk) node value (lend (s .values) l)))
+    put-kept : (x : Step) (l : Lending) (c left-over : List ℕ) (p node value : ℕ) (o : Option ℕ)
+        → (o ≡ none → Touch (lentTo x H) (s .desk) p node (lend (s .values) l) c × (readsOnly (stageAt (s .desk) p) ≡ false) × (addsOnly (stageAt (s .desk) p) ≡ false))
+        → Onward row notes m (afterPut p node value s (putUnless o (s .desk) node value (lend (s .values) l) left-over))
     unfolding Onward afterPut noted counted bareEvent bare leaves finds nodeOf modeOf lentTo
-    put-kept x l p node value (some n) t = rw (restored-lend (s .values) l) k
-    put-kept x l p node value none t =
+    put-kept x l c left-over p node value (some n) t = rw (restored-lend (s .values) l) k
+    put-kept x l c left-over p node value none t =
         let (f, reads, adds) = t refl in
-        rw (restored-lend-set (s .values) l node value (omega (arith, f .at-node .below, k .sized, enough x l p node f)))
-        (touch-kept x l p (didPut node value) f (may-put (f .at-node .hold .mode) (rw (f .at-node .holds) at reads) (rw (f .at-node .holds) at adds)))
+        rw (restored-lend-set (s .values) l node value (omega (arith, f .at-node .below, k .sized, enough x l c p node f)))
+        (touch-kept x l c p (didPut node value) f (may-put (f .at-node .hold .mode) (rw (f .at-node .holds) at reads) (rw (f .at-node .holds) at adds)))
 
-    add-kept : (x : Step) (l : Lending) (p node number : ℕ) (o : Option ℕ)
-        → (o ≡ none → Touch (lentTo x H) (s .desk) p node (lend (s .values) l) × (not (addsOnly (stageAt (s .desk) p)) ≡ false))
-        → Onward row notes m (afterAdd p node number s (putUnless o (s .desk) node (sum64 (getD (lend (s .values) l) node 0) number) (lend (s .values) l)))
+    add-kept : (x : Step) (l : Lending) (c left-over : List ℕ) (p node number : ℕ) (o : Option ℕ)
+        → (o ≡ none → Touch (lentTo x H) (s .desk) p node (lend (s .values) l) c × (not (addsOnly (stageAt (s .desk) p)) ≡ false))
+        → Onward row notes m (afterAdd p node number s (putUnless o (s .desk) node (sum64 (getD (lend (s .values) l) node 0) number) (lend (s .values) l) left-over))
     unfolding Onward afterAdd noted counted bareEvent bare leaves finds nodeOf modeOf lentTo
-    add-kept x l p node number (some n) t = rw (restored-lend (s .values) l) k
-    add-kept x l p node number none t =
+    add-kept x l c left-over p node number (some n) t = rw (restored-lend (s .values) l) k
+    add-kept x l c left-over p node number none t =
         let (f, adds) = t refl in
         rw (
-          lend-at (s .values) l node (omega (arith, f .at-node .below, k .sized)) (enough x l p node f),
-          restored-lend-set (s .values) l node (sum64 (getD (s .values) node 0) number) (omega (arith, f .at-node .below, k .sized, enough x l p node f)),
+          lend-at (s .values) l node (omega (arith, f .at-node .below, k .sized)) (enough x l c p node f),
+          restored-lend-set (s .values) l node (sum64 (getD (s .values) node 0) number) (omega (arith, f .at-node .below, k .sized, enough x l c p node f)),
         )
-        (touch-kept x l p (didAdd node number) f
+        (touch-kept x l c p (didAdd node number) f
         (may-add (f .at-node .hold .mode) (rw (f .at-node .holds) at (not-false (addsOnly (stageAt (s .desk) p)) adds))))
 
     -- what each of the three knows where none of its checks refuses it
-    module _ (x : Step) (l : Lending) (p node : ℕ) (own : List Check) (e : refusal (valueChecks (lentTo x H) (s .desk) p node (lend (s .values) l) own) ≡ none) where
-      known : Touch (lentTo x H) (s .desk) p node (lend (s .values) l)
-      known = touch (lentTo x H) (s .desk) p node (lend (s .values) l) own e
+    module _ (x : Step) (l : Lending) (c : List ℕ) (p node : ℕ) (own : List Check) (e : refusal (valueChecks (lentTo x H) (s .desk) p node (lend (s .values) l) c own) ≡ none) where
+      known : Touch (lentTo x H) (s .desk) p node (lend (s .values) l) c
+      known = touch (lentTo x H) (s .desk) p node (lend (s .values) l) c own e
 
       own-known : NoneHolds own
-      own-known = refusal-none own (touch-own (lentTo x H) (s .desk) p node (lend (s .values) l) own e)
+      own-known = refusal-none own (touch-own (lentTo x H) (s .desk) p node (lend (s .values) l) c own e)
 
     call-kept : (x : Step) (c : Call) → Onward row notes m (moveCall (lentTo x H) c s)
     unfolding moveCall enterStep getStep putStep addStep leaveStep
     call-kept x (enter p mode names nameCount) =
-        enter-kept p (lockOn (lentTo x H) mode (coverIn (lentTo x H) (take nameCount names))) (enterRefusal (lentTo x H) (s .desk) p names nameCount)
-    call-kept x (get p node l) =
+        enter-kept p (lockFor (lentTo x H) mode (take nameCount names)) (enterRefusal (lentTo x H) (s .desk) p names nameCount)
+    call-kept x (get p node l c) =
         let own : List Check = getOwn (s .desk) p in
-        get-kept x l p node _ (λ e. (known x l p node own e, own-known x l p node own e .0))
-    call-kept x (put p node value l) =
+        get-kept x l c _ p node _ (λ e. (known x l c p node own e, own-known x l c p node own e .0))
+    call-kept x (put p node value l c) =
         let own : List Check = putOwn (s .desk) p in
-        put-kept x l p node value _ (λ e. let f = own-known x l p node own e in (known x l p node own e, f .0, f .1 .0))
-    call-kept x (add p node number l) =
+        put-kept x l c _ p node value _ (λ e. let f = own-known x l c p node own e in (known x l c p node own e, f .0, f .1 .0))
+    call-kept x (add p node number l c) =
         let own : List Check = addOwn (s .desk) p in
-        add-kept x l p node number _ (λ e. (known x l p node own e, own-known x l p node own e .0))
+        add-kept x l c _ p node number _ (λ e. (known x l c p node own e, own-known x l c p node own e .0))
     call-kept x (leave p list) = leave-kept p list (leaveRefusal (lentTo x H) (s .desk) p list)
 
   run-kept : (xs : List Step) (s : State) (row : List (Transaction (Unit {0}))) (notes : List (Transaction ℕ)) (m : ℕ) → Kept s row notes m
@@ -321,10 +323,10 @@ module _ (u : List ℕ) where
   run-kept [] s row notes m k = k
   run-kept (x ∷ xs) s row notes m k = run-kept xs _ _ _ _ (unfold Onward in call-kept s row notes m k x (x .call))
 
-  start-kept : (H : Hierarchy) → length (H .intervals) ≡ 2 * H .n → length u ≡ H .n → Kept (start H u) [] [] 0
+  start-kept : (H : Hierarchy) → Nested H → length u ≡ H .n → Kept (start H u) [] [] 0
   unfolding serialLeaves serialFinds opsIn
-  start-kept H two h = record {
-    two-each = two;
+  start-kept H nested h = record {
+    nested = nested;
     sized = h;
     parties = refl;
     values = refl;
@@ -336,17 +338,12 @@ module _ (u : List ℕ) where
       nobody : {X : Type 0} (l : Lock) → Out ≡ Holding l → X
       nobody l e = absurd (let z : _≡_ {A = ℕ} 0 1 = cc in omega arith)
 
--- a built hierarchy has two numbers for each node
-pub built-two-each : (H : Hierarchy) → Built H → length (H .intervals) ≡ 2 * H .n
-built-two-each H b =
-    ap length (b .wrote ∙ taken (H .n) (H .edges) (H .edgeCount) (b .places) (b .scratch) (b .took) .wrote) ∙ built-length (H .n) _
-
 -- THE THEOREM: over a built hierarchy, any list of steps, from a fresh desk and any n values, leaves and answers what the whole visits do,
 -- performed in order of granting from those values
 pub serializable : (H : Hierarchy) → Built H → (values : List ℕ) → length values ≡ H .n → (steps : List Step) → Serial values (run steps (start H values))
 unfolding history
 serializable H b values sized steps =
-    let k = run-kept values steps (start H values) [] [] 0 (start-kept values H (built-two-each H b) sized) in
+    let k = run-kept values steps (start H values) [] [] 0 (start-kept values H (built-nested H b) sized) in
     record { leaves = k .values; answers = k .notes; whole = k .whole; order = row-order ((run steps (start H values)) .events) }
 
 -- demand 3: from n values of zero

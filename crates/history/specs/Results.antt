@@ -27,12 +27,12 @@ LentOf table buffer = (length buffer < length table) ⊎ (take (length table) bu
 abbrev pub leftIn : List ℕ → List ℕ → List ℕ
 leftIn table buffer = cond (ltb (length buffer) (length table)) table (take (length table) buffer)
 
--- which step it was, what it was given besides the hierarchy and the desk, and its result
+-- which step it was, what it was given besides the hierarchy and the desk, and its result: `after` is what it left in the values or the list, `used` in the scratch
 pub data Result : Type 0 where
   enter : (party : ℕ) (mode : Mode) (names : List ℕ) (nameCount : ℕ) (r : EnterStep) → Result
-  get : (party node : ℕ) (values : List ℕ) (r : GetStep) → Result
-  put : (party node value : ℕ) (values : List ℕ) (r : PutStep) (after : List ℕ) → Result
-  add : (party node number : ℕ) (values : List ℕ) (r : AddStep) (after : List ℕ) → Result
+  get : (party node : ℕ) (values scratch : List ℕ) (r : GetStep) (used : List ℕ) → Result
+  put : (party node value : ℕ) (values scratch : List ℕ) (r : PutStep) (after used : List ℕ) → Result
+  add : (party node number : ℕ) (values scratch : List ℕ) (r : AddStep) (after used : List ℕ) → Result
   leave : (party : ℕ) (list : List ℕ) (r : LeaveStep) (after : List ℕ) → Result
 
 -- a call that was made: the two tables as it was lent them, and the rest
@@ -44,33 +44,33 @@ pub record Made : Type 0 where
 -- THE CONTRACT of its method is met by the result, on a hierarchy as lent, a desk, and values of which get, put and add are lent
 abbrev pub Meets : Hierarchy → Desk → List ℕ → Result → Type 0
 Meets K d values (enter party mode names nameCount r) = Enters r (enterStep K d party mode names nameCount)
-Meets K d values (get party node buffer r) = LentOf values buffer × Gets r (getStep K d party node buffer)
-Meets K d values (put party node value buffer r after) = LentOf values buffer × Puts r after (putStep K d party node value buffer)
-Meets K d values (add party node number buffer r after) = LentOf values buffer × Adds r after (addStep K d party node number buffer)
+Meets K d values (get party node buffer scratch r used) = LentOf values buffer × Gets r used (getStep K d party node buffer scratch)
+Meets K d values (put party node value buffer scratch r after used) = LentOf values buffer × Puts r after used (putStep K d party node value buffer scratch)
+Meets K d values (add party node number buffer scratch r after used) = LentOf values buffer × Adds r after used (addStep K d party node number buffer scratch)
 Meets K d values (leave party list r after) = Leaves r after (leaveStep K d party list)
 
 -- the desk that the call handed back
 abbrev pub deskFrom : Result → Desk
 deskFrom (enter party mode names nameCount r) = r .desk
-deskFrom (get party node buffer r) = r .desk
-deskFrom (put party node value buffer r after) = r .desk
-deskFrom (add party node number buffer r after) = r .desk
+deskFrom (get party node buffer scratch r used) = r .desk
+deskFrom (put party node value buffer scratch r after used) = r .desk
+deskFrom (add party node number buffer scratch r after used) = r .desk
 deskFrom (leave party list r after) = r .desk
 
 -- the values as the call left them
 abbrev pub valuesFrom : List ℕ → Result → List ℕ
 valuesFrom values (enter party mode names nameCount r) = values
-valuesFrom values (get party node buffer r) = values
-valuesFrom values (put party node value buffer r after) = leftIn values after
-valuesFrom values (add party node number buffer r after) = leftIn values after
+valuesFrom values (get party node buffer scratch r used) = values
+valuesFrom values (put party node value buffer scratch r after used) = leftIn values after
+valuesFrom values (add party node number buffer scratch r after used) = leftIn values after
 valuesFrom values (leave party list r after) = values
 
 -- what the book is told of it: the answer that the struct has, and for leave the list that stands in the buffer
 abbrev pub toldBy : Result → Event ℕ
 toldBy (enter party mode names nameCount r) = entered party (enterMeaning (r .answer))
-toldBy (get party node buffer r) = got party node (getMeaning (r .answer))
-toldBy (put party node value buffer r after) = stored party node value (putMeaning (r .answer))
-toldBy (add party node number buffer r after) = added party node number (addMeaning (r .answer))
+toldBy (get party node buffer scratch r used) = got party node (getMeaning (r .answer))
+toldBy (put party node value buffer scratch r after used) = stored party node value (putMeaning (r .answer))
+toldBy (add party node number buffer scratch r after used) = added party node number (addMeaning (r .answer))
 toldBy (leave party list r after) = left party (listed after (leaveMeaning (r .answer)))
 
 -- each call of a list was lent of the hierarchy, and meets its contract on the desk that the one before handed back and the values as last left

@@ -27,18 +27,18 @@ use Rattle.locks.specs.declared.Stage.{Stage}
 use Rattle.locks.specs.declared.Stage.the-variants.{Out, Waiting, Holding}
 use Rattle.desk.specs.declared.Desk.{Desk}
 use Rattle.locks.specs.Locks.{modeNumbered}
-use Rattle.locks.specs.Lent.{Hierarchy, coverIn, lockOn}
+use Rattle.locks.specs.Lent.{Hierarchy, coverIn, lockFor}
 use Rattle.parties.specs.Parties.{entryOf, stageIn, meetsHolder, meetsWaiter}
 use Rattle.desk.specs.Desks.{listedAt, queueOf, freshDesk}
 use Rattle.parties.specs.Sound.{listsParties}
 use Rattle.sweeps.specs.Sweeps.{Sweep, staysWaiting, isGranted, offerIf, offerTo, offer, sweep}
 use Rattle.desk.specs.Steps.{getOwn, putOwn, addOwn, PutResult, StepFacts, stepChecks, valueChecks, free, enterRefusal, enterIf, enterUnless, enterStep}
-use Rattle.desk.specs.Steps.{getUnless, getStep, putUnless, putStep, sum64, addStep, afterLeaving, leaveRefusal, leaveUnless, leaveStep}
+use Rattle.desk.specs.Steps.{scratchLeft, getUnless, getStep, putUnless, putStep, sum64, addStep, afterLeaving, leaveRefusal, leaveUnless, leaveStep}
 use Rattle.desk.proofs.Facts.{step-facts}
 use Rattle.grants.proofs.Counts.{grant-below, grants-below, grants-length}
 use Rattle.parties.proofs.Clauses.{clauses, sound-few}
 use Rattle.replay.specs.Replay.{StepAnswer, granted, refused, enterLine, getLine, putLine, addLine, leaveLine, answerIn}
-use Rattle.replay.specs.Replay.{enterCall, getCall, putCall, addCall, leaveCall, stepOf, performStep}
+use Rattle.replay.specs.Replay.{enterCall, freshScratch, getCall, putCall, addCall, leaveCall, stepOf, performStep}
 use Rattle.runs.specs.Run.{lend, Call, lentTo, State, listed, afterEnter, afterGet, afterPut, afterAdd, afterLeave, moveCall, move}
 use Rattle.runs.proofs.Lends.{restored-full, put-length, add-length}
 use Rattle.texts.specs.Text.{decimal, space, spaced, answerText}
@@ -131,7 +131,7 @@ module _ (H : Hierarchy) (d : Desk) (party : ℕ) (short : Bool) (own : List Che
 -- ENTER
 module _ (H : Hierarchy) (d : Desk) (party : ℕ) (mode : Mode) (names : List ℕ) (nameCount : ℕ) (b : Bounded d) where
   abbrev lock : Lock
-  lock = lockOn H mode (coverIn H (take nameCount names))
+  lock = lockFor H mode (take nameCount names)
 
   enter-by : (o : Option ℕ) → enterRefusal H d party names nameCount ≡ o → AtMost o
       → Bounded ((enterUnless o d party lock) .desk) × Short (enterLine ((enterUnless o d party lock) .answer))
@@ -158,40 +158,43 @@ module _ (H : Hierarchy) (d : Desk) (party : ℕ) (mode : Mode) (names : List �
   enter-bounded =
       enter-by (enterRefusal H d party names nameCount) refl (refusal-low _ refl)
 
--- GET
-module _ (H : Hierarchy) (d : Desk) (party node : ℕ) (values : List ℕ) (b : Bounded d) (v : Below 18446744073709551616 values) where
-  get-by : (o : Option ℕ) → AtMost o → Bounded ((getUnless o d (getD values node 0)) .desk) × Short (getLine ((getUnless o d (getD values node 0)) .answer))
-  get-by (some k) low = (b, refused-short k low)
-  get-by none low = (b, omega (arith, digits-most (getD values node 0) (v node)))
+-- GET, whatever scratch it leaves
+module _ (H : Hierarchy) (d : Desk) (party node : ℕ) (values scratch : List ℕ) (b : Bounded d) (v : Below 18446744073709551616 values) where
+  get-by : (o : Option ℕ) (wiped : List ℕ) → AtMost o
+      → Bounded ((getUnless o d (getD values node 0) wiped) .desk) × Short (getLine ((getUnless o d (getD values node 0) wiped) .answer))
+  get-by (some k) wiped low = (b, refused-short k low)
+  get-by none wiped low = (b, omega (arith, digits-most (getD values node 0) (v node)))
 
-  pub get-bounded : Bounded ((getStep H d party node values) .desk) × Short (getLine ((getStep H d party node values) .answer))
+  pub get-bounded : Bounded ((getStep H d party node values scratch) .desk) × Short (getLine ((getStep H d party node values scratch) .answer))
   unfolding getStep every
   get-bounded =
-      get-by (refusal (valueChecks H d party node values (getOwn d party))) (refusal-low (valueChecks H d party node values (getOwn d party)) refl)
+      let checks : List Check = valueChecks H d party node values scratch (getOwn d party) in
+      get-by (refusal checks) (scratchLeft H values scratch) (refusal-low checks refl)
 
--- PUT AND ADD, with the line of the one or the other
-module _ (d : Desk) (node value : ℕ) (values : List ℕ) (line : Answer (Unit {0}) → StepAnswer) where
+-- PUT AND ADD, with the line of the one or the other, whatever scratch they leave
+module _ (line : Answer (Unit {0}) → StepAnswer) where
   abbrev WriteBounded : PutResult → Type 0
   WriteBounded x = Bounded (x .desk) × Below 18446744073709551616 (x .values) × Short (line (x .answer))
 
-  write-by : Bounded d → Below 18446744073709551616 values → value < 18446744073709551616 → Short (line (done tt)) → ((k : ℕ) → k ≤ 99 → Short (line (denied k)))
-      → (o : Option ℕ) → AtMost o → WriteBounded (putUnless o d node value values)
-  write-by b v wide short few (some k) low = (b, v, few k low)
-  write-by b v wide short few none low = (b, (λ i. set-get (λ (k : ℕ). k < 18446744073709551616) values node value i 0 wide (v i)), short)
+  write-by : (d : Desk) (node value : ℕ) (values wiped : List ℕ) → Bounded d → Below 18446744073709551616 values → value < 18446744073709551616
+      → Short (line (done tt)) → ((k : ℕ) → k ≤ 99 → Short (line (denied k))) → (o : Option ℕ) → AtMost o → WriteBounded (putUnless o d node value values wiped)
+  write-by d node value values wiped b v wide short few (some k) low = (b, v, few k low)
+  write-by d node value values wiped b v wide short few none low =
+      (b, (λ i. set-get (λ (k : ℕ). k < 18446744073709551616) values node value i 0 wide (v i)), short)
 
-module _ (H : Hierarchy) (d : Desk) (party node number : ℕ) (values : List ℕ) (b : Bounded d) (v : Below 18446744073709551616 values) where
-  pub put-bounded : number < 18446744073709551616 → WriteBounded d node number values putLine (putStep H d party node number values)
+module _ (H : Hierarchy) (d : Desk) (party node number : ℕ) (values scratch : List ℕ) (b : Bounded d) (v : Below 18446744073709551616 values) where
+  pub put-bounded : number < 18446744073709551616 → WriteBounded putLine (putStep H d party node number values scratch)
   unfolding putStep every
   put-bounded wide =
-      write-by d node number values putLine b v wide (omega arith) refused-short (refusal (valueChecks H d party node values (putOwn d party)))
-      (refusal-low (valueChecks H d party node values (putOwn d party)) refl)
+      let checks : List Check = valueChecks H d party node values scratch (putOwn d party) in
+      write-by putLine d node number values (scratchLeft H values scratch) b v wide (omega arith) refused-short (refusal checks) (refusal-low checks refl)
 
-  pub add-bounded : WriteBounded d node (sum64 (getD values node 0) number) values addLine (addStep H d party node number values)
+  pub add-bounded : WriteBounded addLine (addStep H d party node number values scratch)
   unfolding addStep every
   add-bounded =
-      let sum : ℕ = sum64 (getD values node 0) number in
-      write-by d node sum values addLine b v (omega arith) (omega arith) refused-short (refusal (valueChecks H d party node values (addOwn d party)))
-      (refusal-low (valueChecks H d party node values (addOwn d party)) refl)
+      let checks : List Check = valueChecks H d party node values scratch (addOwn d party) in
+      write-by addLine d node (sum64 (getD values node 0) number) values (scratchLeft H values scratch) b v (omega arith) (omega arith) refused-short (refusal checks)
+      (refusal-low checks refl)
 
 -- LEAVE. Of k waiters that a pass took each stays or is granted
 record Swept (k : ℕ) (s : Sweep) : Type 0 where
@@ -287,14 +290,14 @@ module _ (s : State) (r : List ℕ) (bytes : Below 256 r) (f : Fine s) where
   unfolding moveCall lend afterEnter afterGet afterPut afterAdd afterLeave
   asks-fine true b c d =
       let x = enter-bounded H (s .desk) (partyIn r) (modeNumbered (modeIn r)) (namesIn r) (nameCountIn r) (f .desk) in (record { desk = x .0; values = f .values }, x .1)
-  asks-fine false true c d = let x = get-bounded H (s .desk) (partyIn r) (nodeIn r) (s .values) (f .desk) (f .values) in (record { desk = x .0; values = f .values }, x .1)
+  asks-fine false true c d = let x = get-bounded H (s .desk) (partyIn r) (nodeIn r) (s .values) freshScratch (f .desk) (f .values) in (record { desk = x .0; values = f .values }, x .1)
   asks-fine false false true d =
-      let x = put-bounded H (s .desk) (partyIn r) (nodeIn r) (valueIn r) (s .values) (f .desk) (f .values) number-wide in
-      (record { desk = x .0; values = rw (restored-full (s .values) _ (put-length H (s .desk) (partyIn r) (nodeIn r) (valueIn r) (s .values))) (x .1) }, x .2)
+      let x = put-bounded H (s .desk) (partyIn r) (nodeIn r) (valueIn r) (s .values) freshScratch (f .desk) (f .values) number-wide in
+      (record { desk = x .0; values = rw (restored-full (s .values) _ (put-length H (s .desk) (partyIn r) (nodeIn r) (valueIn r) (s .values) freshScratch)) (x .1) }, x .2)
   asks-fine false false false true = let x = leave-bounded H (s .desk) (partyIn r) (f .desk) in (record { desk = x .0; values = f .values }, x .1)
   asks-fine false false false false =
-      let x = add-bounded H (s .desk) (partyIn r) (nodeIn r) (valueIn r) (s .values) (f .desk) (f .values) in
-      (record { desk = x .0; values = rw (restored-full (s .values) _ (add-length H (s .desk) (partyIn r) (nodeIn r) (valueIn r) (s .values))) (x .1) }, x .2)
+      let x = add-bounded H (s .desk) (partyIn r) (nodeIn r) (valueIn r) (s .values) freshScratch (f .desk) (f .values) in
+      (record { desk = x .0; values = rw (restored-full (s .values) _ (add-length H (s .desk) (partyIn r) (nodeIn r) (valueIn r) (s .values) freshScratch)) (x .1) }, x .2)
 
   pub perform-fine : Fine ((performStep s r) .state) × Short (answerIn ((performStep s r) .event))
   unfolding move

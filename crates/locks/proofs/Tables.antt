@@ -15,10 +15,9 @@ use Rattle.lists.proofs.Bools.{bool, and-left, and-right, or-left, or-right, ov
 use Rattle.lists.proofs.Bounded.{any-none, any-stop}
 use Rattle.locks.specs.declared.Mode.{Mode}
 use Rattle.locks.specs.declared.Lock.{Lock}
-use Rattle.locks.specs.declared.Stage.{Stage}
-use Rattle.locks.specs.declared.Stage.the-variants.{Out, Waiting, Holding}
+use Rattle.naming.specs.declared.Names.{Names}
 use Rattle.locks.specs.Locks.{realInterval}
-use Rattle.locks.specs.Lent.{Hierarchy, lent, spanned, lowIn, highIn, intervalWrong, lockOn, coverRight, insideHold}
+use Rattle.locks.specs.Lent.{Hierarchy, spanned, lowIn, highIn, intervalWrong, lockOn, coverRight}
 use Rattle.locks.specs.Inner.{outside}
 
 -- half of a length is below a number just where the length is below twice the number
@@ -36,9 +35,9 @@ pub right-by : (n : ℕ) (table : List ℕ) (l : Lock) (i : Interval) → i ≡ 
 right-by n table l i p = ap (rightBy l n) (sym p)
 
 -- the lock on a cover, by what was read of it
-pub lock-by : (table : List ℕ) (mode : Mode) (cover : ℕ) (i : Interval) → i ≡ intervalAt table cover
-    → record { mode = mode; cover = cover; low = i .low; high = i .high } ≡ lockOn (spanned 0 table) mode cover
-lock-by table mode cover i p = ap (λ (x : Interval). record { mode = mode; cover = cover; low = x .low; high = x .high }) p
+pub lock-by : (table : List ℕ) (mode : Mode) (cover : ℕ) (names : Names) (i : Interval) → i ≡ intervalAt table cover
+    → record { mode = mode; cover = cover; low = i .low; high = i .high; names = names } ≡ lockOn (spanned 0 table) mode cover names
+lock-by table mode cover names i p = ap (λ (x : Interval). record { mode = mode; cover = cover; low = x .low; high = x .high; names = names }) p
 
 -- the five tests of an interval
 pub outside-tests : (low high least most : ℕ) → ((((ltb low 1 || ltb high low) || ltb 256 high) || ltb low least) || ltb most high) ≡ outside low high least most
@@ -82,13 +81,6 @@ lock-covered H l right e =
     let same : lowIn H (l .cover) ≡ l .low = eqb-true _ _ (and-right below low two) in
     let same′ : highIn H (l .cover) ≡ l .high = eqb-true _ _ (and-right (below && low) high e) in
     ap (λ (k : ℕ). realInterval k (l .high)) (sym same) ∙ ap (realInterval (lowIn H (l .cover))) (sym same′) ∙ not-wrong H (l .cover) right here .0
-
--- of n and the edges it says nothing whether a node is inside a hold
-pub inside-any : (n m : ℕ) (intervals edges : List ℕ) (edgeCount node : ℕ) (s : Stage)
-    → insideHold (lent n intervals edges edgeCount) node s ≡ insideHold (spanned m intervals) node s
-inside-any n m intervals edges edgeCount node Out = refl
-inside-any n m intervals edges edgeCount node (Waiting l) = refl
-inside-any n m intervals edges edgeCount node (Holding l) = refl
 
 -- a list that is shorter than a count is all that the count takes of it
 pub short-take : (names : List ℕ) (k : ℕ) → length names < k → take (length names) names ≡ take k names

@@ -2,7 +2,9 @@
 use mathlib.Core.Bool.{Bool, true, false, not, cond, _&&_, _||_}
 use Prim.Native.Nat.{ℕ}
 use lib.Dec.{eqb, leb}
+use mathlib.Core.List.{[]}
 use Rattle.lists.specs.Lists.{one}
+use Rattle.naming.specs.Names.{named}
 use Rattle.locks.specs.declared.Mode.{Mode}
 use Rattle.locks.specs.declared.Mode.the-variants.{Reading, Writing, Adding}
 use Rattle.locks.specs.declared.Lock.{Lock}
@@ -49,9 +51,9 @@ modeNumber Reading = 1
 modeNumber Writing = 2
 modeNumber Adding = 3
 
--- the hold of mode, low and high; its cover plays no part
+-- the hold of mode, low and high; its cover and its names play no part
 abbrev pub lockNumbered : ℕ → ℕ → ℕ → Lock
-lockNumbered m low high = record { mode = modeNumbered m; cover = 0; low = low; high = high }
+lockNumbered m low high = record { mode = modeNumbered m; cover = 0; low = low; high = high; names = named [] }
 
 -- a mode of 1, 2 or 3, and an interval in 1 to 256 with low at most high
 abbrev pub isHold : ℕ → ℕ → ℕ → Bool

@@ -1,5 +1,8 @@
 -- The stages of a party, and what is asked of one. Assumes nothing.
 use mathlib.Core.Bool.{Bool, true, false}
+use mathlib.Core.List.{[]}
+use Rattle.naming.specs.declared.Names.{Names}
+use Rattle.naming.specs.Names.{named}
 use Rattle.locks.specs.declared.Mode.{Mode}
 use Rattle.locks.specs.declared.Mode.the-variants.{Reading, Writing, Adding}
 use Rattle.locks.specs.declared.Lock.{Lock}
@@ -66,6 +69,12 @@ abbrev pub addsOnly : Stage → Bool
 addsOnly Out = false
 addsOnly (Waiting l) = false
 addsOnly (Holding l) = isAdding (l .mode)
+
+-- the names of what a party holds; one that does not hold has none
+abbrev pub heldNames : Stage → Names
+heldNames Out = named []
+heldNames (Waiting l) = named []
+heldNames (Holding l) = l .names
 
 -- what a waiter waits for, held; another stage stays
 abbrev pub held : Stage → Stage

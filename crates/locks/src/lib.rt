@@ -2,13 +2,16 @@
 ghost use mathlib.Core.Path.{_≡_};
 ghost use mathlib.Core.Bool.{true, not, _||_};
 ghost use lib.Dec.{ltb};
-ghost use Rattle.lists.specs.Lists.{anyBelow, any};
+ghost use Rattle.lists.specs.Lists.{anyBelow, any, every};
 ghost use Prim.Native.Nat.{_*_, _≤_};
-ghost use lib.ListN.{length, take};
+ghost use mathlib.Core.List.{[]};
+ghost use lib.ListN.{length, take, replicate};
 ghost use Rattle.locks.specs.Locks.{compatible as goingTogether, conflict as conflicting, realInterval, isMode, isHold, modeWhen, modeNumber, lockNumbered, conflictCall};
-ghost use Rattle.locks.specs.Stages.{held, isOut, isWaiting, againstHolder, againstWaiter, ofLock, isReading, isAdding, readsOnly, addsOnly};
-ghost use Rattle.locks.specs.Lent.{lent, spanned, coverIn, tablesShort, intervalWrong, namesWrong, lockOn, coverRight, insideLock, insideHold};
-ghost use Rattle.locks.specs.Inner.{outside};
+ghost use Rattle.naming.specs.Inner.{keptNames};
+ghost use Rattle.locks.specs.Stages.{held, heldNames, isOut, isWaiting, againstHolder, againstWaiter, ofLock, isReading, isAdding, readsOnly, addsOnly};
+ghost use Rattle.locks.specs.Lent.{lent, spanned, coverIn, tablesShort, intervalWrong, namesWrong, lockOn, coverRight, insideLock, coversNames, inNamed};
+ghost use Rattle.locks.specs.Inner.{outside, lockFits};
+use naming::Names;
 
 // A visit is reading, writing or adding.
 pub enum Mode {
@@ -17,12 +20,13 @@ pub enum Mode {
     Adding,
 }
 
-// A hold, or a waiting call: mode, cover and the cover's interval. Its party is the place of its entry.
+// A hold, or a waiting call: mode, cover, the cover's interval and the names. Its party is the place of its entry.
 pub struct Lock {
     pub mode: Mode,
     pub cover: u16,
     pub low: u16,
     pub high: u16,
+    pub names: Names,
 }
 
 // A party is out, waiting or holding.
@@ -167,14 +171,63 @@ fn lock_right(n: usize, intervals: &[u16], l: Lock) -> bool
     i.high == l.high
 }
 
-// Whether what a party at this stage holds or waits for has a right cover.
+// Whether a node's interval lies inside that of a lock.
+fn inside_lock(intervals: &[u16], node: usize, l: Lock) -> bool
+    ensures { λ r. ⌜ r ≡ insideLock (spanned 0 (now (intervals .entry))) node l ⌝ }
+{
+    let i = intervals::interval_at(intervals, node);
+    if i.low < l.low {
+        return false;
+    }
+    i.high <= l.high
+}
+
+// Whether the intervals of all these names lie inside that of a lock.
+fn names_inside(intervals: &[u16], names: &[u8], l: Lock) -> bool
+    ensures { λ r. ⌜ r ≡ every (λ name. insideLock (spanned 0 (now (intervals .entry))) name l) (now (names .entry)) ⌝ }
+{
+    let mut i = 0;
+    while i < names.len() {
+        if !inside_lock(intervals, names[i] as usize, l) {
+            return false;
+        }
+        i += 1;
+    }
+    true
+}
+
+// Whether a lock's interval contains those of its names.
+fn covers_names(intervals: &[u16], l: Lock) -> bool
+    ensures { λ r. ⌜ r ≡ coversNames (spanned 0 (now (intervals .entry))) l ⌝ }
+{
+    let m = l.names;
+    let p = naming::places(m);
+    let k = naming::counted(m);
+    names_inside(intervals, &p[0..k], l)
+}
+
+// Whether a lock's cover is right, its names are right, and the cover's interval contains theirs.
+fn lock_fits(n: usize, intervals: &[u16], l: Lock) -> bool
+    ensures { λ r. ⌜ r ≡ lockFits (spanned n (now (intervals .entry))) l ⌝ }
+{
+    if !lock_right(n, intervals, l) {
+        return false;
+    }
+    let m = l.names;
+    if !naming::names_right(n, m) {
+        return false;
+    }
+    covers_names(intervals, l)
+}
+
+// Whether what a party at this stage holds or waits for has a right cover and right names.
 pub fn stage_right(n: usize, intervals: &[u16], s: Stage) -> bool
-    ensures { λ r. ⌜ r ≡ ofLock (coverRight (spanned n (now (intervals .entry)))) s ⌝ }
+    ensures { λ r. ⌜ r ≡ ofLock (lockFits (spanned n (now (intervals .entry)))) s ⌝ }
 {
     match s {
         Stage::Out => true,
-        Stage::Waiting(l) => lock_right(n, intervals, l),
-        Stage::Holding(l) => lock_right(n, intervals, l),
+        Stage::Waiting(l) => lock_fits(n, intervals, l),
+        Stage::Holding(l) => lock_fits(n, intervals, l),
     }
 }
 
@@ -253,41 +306,43 @@ pub fn names_wrong(n: usize, names: &[u16], name_count: usize) -> bool
     some_name_wrong(n, names, name_count)
 }
 
-// The lock that a call asks for: on its cover, with the cover's interval and not the call's.
+// The lock that a call asks for: on its cover, with the cover's interval and not the call's, and with the names.
 pub fn lock_called(n: u16, intervals: &[u16], mode: Mode, names: &[u16]) -> Lock
-    ensures { λ r. ⌜ r ≡ lockOn (spanned n (now (intervals .entry))) mode (coverIn (spanned n (now (intervals .entry))) (now (names .entry))) ⌝ }
+    ensures { λ r. ⌜ r ≡ lockOn (spanned n (now (intervals .entry))) mode (coverIn (spanned n (now (intervals .entry))) (now (names .entry))) (keptNames (now (names .entry))) ⌝ }
 {
     let call = intervals::call_interval(intervals, names);
     let cover = intervals::closest(n as usize, intervals, call);
     let i = intervals::interval_at(intervals, cover);
+    let kept = naming::kept(names);
     Lock {
         mode,
         cover: cover as u16,
         low: i.low,
         high: i.high,
+        names: kept,
     }
 }
 
-// Whether a node's interval lies inside that of a lock.
-fn inside_lock(intervals: &[u16], node: usize, l: Lock) -> bool
-    ensures { λ r. ⌜ r ≡ insideLock (spanned 0 (now (intervals .entry))) node l ⌝ }
-{
-    let i = intervals::interval_at(intervals, node);
-    if i.low < l.low {
-        return false;
-    }
-    i.high <= l.high
-}
-
-// Whether a node's interval lies inside what a party at this stage holds.
-pub fn inside_hold(intervals: &[u16], node: usize, s: Stage) -> bool
-    ensures { λ r. ⌜ r ≡ insideHold (spanned 0 (now (intervals .entry))) node s ⌝ }
+// The names of what a party at this stage holds; one that does not hold has none.
+fn held_names(s: Stage) -> Names
+    ensures { λ r. ⌜ r ≡ heldNames s ⌝ }
 {
     match s {
-        Stage::Out => false,
-        Stage::Waiting(_) => false,
-        Stage::Holding(l) => inside_lock(intervals, node, l),
+        Stage::Out => naming::none(),
+        Stage::Waiting(_) => naming::none(),
+        Stage::Holding(l) => l.names,
     }
+}
+
+// Whether a node is in the reach of a name of what a party at this stage holds, among as many nodes as there are flags. The flags are 0 afterwards.
+pub fn in_named(edges: &[u16], edge_count: usize, node: usize, s: Stage, flags: &mut [u8]) -> bool
+    ensures { λ r. ⌜ r ≡ inNamed (lent (length (now (flags .entry))) [] (now (edges .entry)) «edge_count») node s ⌝ }
+    ensures { λ _. ⌜ now (flags .exit) ≡ replicate (length (now (flags .entry))) 0 ⌝ }
+{
+    let m = held_names(s);
+    let p = naming::places(m);
+    let k = naming::counted(m);
+    hierarchy::in_reach(edges, edge_count, &p[0..k], node, flags)
 }
 
 // Reading where the first is so, else writing where the second is, else adding: of a number m that is a mode, `m == 1` and `m == 2` tell.
@@ -345,11 +400,13 @@ fn lock_numbered(m: u32, low: u32, high: u32) -> Lock
     ensures { λ r. ⌜ r ≡ lockNumbered m low high ⌝ }
 {
     let mode = mode_when(m == 1, m == 2);
+    let names = naming::none();
     Lock {
         mode,
         cover: 0,
         low: low as u16,
         high: high as u16,
+        names,
     }
 }
 

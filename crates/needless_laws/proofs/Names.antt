@@ -16,7 +16,8 @@ use Rattle.locks.specs.declared.Mode.{Mode}
 use Rattle.locks.specs.declared.Lock.{Lock}
 use Rattle.locks.specs.declared.Stage.{Stage}
 use Rattle.locks.specs.declared.Stage.the-variants.{Out, Waiting, Holding}
-use Rattle.locks.specs.Lent.{Hierarchy, lowIn, highIn, coverIn, lockOn}
+use Rattle.locks.specs.Lent.{Hierarchy, lowIn, highIn, lockFor}
+use Rattle.history.proofs.Nested.{every-in}
 use Rattle.parties.specs.declared.Entry.{Entry}
 use Rattle.parties.specs.Parties.{entryOf, stageIn, meetsHolder, meetsWaiter}
 use Rattle.sweeps.specs.Sweeps.{Sweep, offerIf, offerTo, offer, sweep}
@@ -46,21 +47,14 @@ StageNamed H (Holding l) names = NamedBy H l names
 abbrev pub AllNamed : Hierarchy → List Entry → List (List ℕ) → Type 0
 AllNamed H entries named = (party : ℕ) → StageNamed H (stageIn entries party) (namesOf named party)
 
--- A CALL that names one node. A test of every element holds at each
-every-in : (p : ℕ → Bool) (xs : List ℕ) → every p xs ≡ true → (x : ℕ) → In x xs → p x ≡ true
-unfolding every
-every-in p [] e x i = in-nil i
-every-in p (y ∷ ys) e x i =
-    in-cons i (λ q. ap p (sym q) ∙ and-left (p y) (every p ys) e) (every-in p ys (and-right (p y) (every p ys) e) x)
-
 -- names that are one node are the first one
 one-node : (names : List ℕ) → oneNode names ≡ true → (r : ℕ) → In r names → r ≡ getD names 0 0
 one-node [] e r i = in-nil i
-one-node (name ∷ names) e r i = in-cons i sym (λ j. eqb-true r name (every-in (λ other. eqb other name) names e r j))
+one-node (name ∷ names) e r i = in-cons i sym (λ j. eqb-true r name (every-in (λ other. eqb other name) e j))
 
 -- where the call is not refused, its lock has the interval of the one name
 pub call-named : (H : Hierarchy) (d : Desk) (party : ℕ) (mode : Mode) (names : List ℕ) (nameCount : ℕ) → enterRefusal H d party names nameCount ≡ none
-    → oneNode (take nameCount names) ≡ true → NamedBy H (lockOn H mode (coverIn H (take nameCount names))) (take nameCount names)
+    → oneNode (take nameCount names) ≡ true → NamedBy H (lockFor H mode (take nameCount names)) (take nameCount names)
 call-named H d party mode names nameCount fine one =
     let x : ℕ = getD (take nameCount names) 0 0 in
     let there : In x (take nameCount names) = place-in (take nameCount names) 0 (enter-some H d party mode names nameCount fine) in

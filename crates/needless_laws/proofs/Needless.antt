@@ -20,7 +20,7 @@ use Rattle.locks.specs.declared.Lock.{Lock}
 use Rattle.locks.specs.declared.Stage.{Stage}
 use Rattle.locks.specs.declared.Stage.the-variants.{Out, Waiting, Holding}
 use Rattle.locks.specs.Locks.{modeNumbered}
-use Rattle.locks.specs.Lent.{Hierarchy, coverIn, lockOn}
+use Rattle.locks.specs.Lent.{Hierarchy, lockFor}
 use Rattle.parties.specs.declared.Entry.{Entry}
 use Rattle.parties.specs.Parties.{entryOf}
 use Rattle.sweeps.specs.Sweeps.{Sweep}
@@ -32,7 +32,7 @@ use Rattle.runs.specs.Run.{Call, State, start, lend, restored, whole, afterEnte
 use Rattle.runs.proofs.Runs.{move-hierarchy}
 use Rattle.history.proofs.Facts.{all-out, sweep-length}
 use Rattle.soundness.proofs.Laws.{unchanged-get, unchanged-put, unchanged-add}
-use Rattle.replay.specs.Replay.{StepAnswer, enterLine, getLine, putLine, addLine, enterCall, getCall, putCall, addCall, leaveCall, callOf, stepOf, stateOf, Performed, performed, performStep, performAll}
+use Rattle.replay.specs.Replay.{StepAnswer, enterLine, getLine, putLine, addLine, enterCall, getCall, putCall, addCall, leaveCall, callOf, stepOf, stateOf, Performed, performed, performStep, performAll, freshScratch}
 use Rattle.replay.specs.Replay.{recordList, sizeOf, edgeTable, edgeCountOf, stepRecords, builtOf, startOf}
 use Rattle.replay.proofs.Records.{edge-table-length}
 use Rattle.replay.proofs.Outcomes.{call-3, call-4, call-5, call-6, call-7, performs-call}
@@ -66,7 +66,7 @@ module _ (s : State) (named : List (List ℕ)) (known : Known s named) (r : List
 
   -- ENTER. The lock that it asks for
   abbrev asked : Lock
-  asked = lockOn H (modeNumbered (modeIn r)) (coverIn H (take (nameCountIn r) (namesIn r)))
+  asked = lockFor H (modeNumbered (modeIn r)) (take (nameCountIn r) (namesIn r))
 
   -- as many names as are counted are all that the record has
   all-names : take (nameCountIn r) (namesIn r) ≡ namesIn r
@@ -135,25 +135,25 @@ module _ (s : State) (named : List (List ℕ)) (known : Known s named) (r : List
   unfolding moveCall afterGet
   get-seen =
       let values : List ℕ = lend (s .values) whole in
-      let g : GetResult = getStep H d (partyIn r) (nodeIn r) values in
+      let g : GetResult = getStep H d (partyIn r) (nodeIn r) values freshScratch in
       let q = get-quiet (g .answer) in
-      quiet-seen (g .desk) (s .values) (getLine (g .answer)) (unchanged-get H d (partyIn r) (nodeIn r) values) (q .0) (q .1)
+      quiet-seen (g .desk) (s .values) (getLine (g .answer)) (unchanged-get H d (partyIn r) (nodeIn r) values freshScratch) (q .0) (q .1)
 
   put-seen : Seen s named r (performed (moveCall H (putCall r) s))
   unfolding moveCall afterPut
   put-seen =
       let values : List ℕ = lend (s .values) whole in
-      let g : PutResult = putStep H d (partyIn r) (nodeIn r) (valueIn r) values in
+      let g : PutResult = putStep H d (partyIn r) (nodeIn r) (valueIn r) values freshScratch in
       let q = put-quiet (g .answer) in
-      quiet-seen (g .desk) (restored (s .values) (g .values)) (putLine (g .answer)) (unchanged-put H d (partyIn r) (nodeIn r) (valueIn r) values) (q .0) (q .1)
+      quiet-seen (g .desk) (restored (s .values) (g .values)) (putLine (g .answer)) (unchanged-put H d (partyIn r) (nodeIn r) (valueIn r) values freshScratch) (q .0) (q .1)
 
   add-seen : Seen s named r (performed (moveCall H (addCall r) s))
   unfolding moveCall afterAdd
   add-seen =
       let values : List ℕ = lend (s .values) whole in
-      let g : PutResult = addStep H d (partyIn r) (nodeIn r) (valueIn r) values in
+      let g : PutResult = addStep H d (partyIn r) (nodeIn r) (valueIn r) values freshScratch in
       let q = add-quiet (g .answer) in
-      quiet-seen (g .desk) (restored (s .values) (g .values)) (addLine (g .answer)) (unchanged-add H d (partyIn r) (nodeIn r) (valueIn r) values) (q .0) (q .1)
+      quiet-seen (g .desk) (restored (s .values) (g .values)) (addLine (g .answer)) (unchanged-add H d (partyIn r) (nodeIn r) (valueIn r) values freshScratch) (q .0) (q .1)
 
   -- LEAVE, its pass included
   leave-seen : Seen s named r (performed (moveCall H (leaveCall r) s))

@@ -2,7 +2,7 @@
 use mathlib.Core.Path.{_≡_, refl, sym, _∙_}
 use mathlib.Core.List.{List}
 use mathlib.Core.Bool.{Bool, true, false, not, _&&_, _||_}
-use Prim.Native.Nat.{ℕ, _≤_}
+use Prim.Native.Nat.{ℕ, _≤_, _<_}
 use lib.Dec.{leb, ltb}
 use lib.ListN.{take}
 use borrow.Author.Tests.{leb-true}
@@ -12,12 +12,14 @@ use Rattle.lists.proofs.Bounded.{all-at, all-of}
 use Rattle.locks.specs.declared.Stage.{Stage}
 use Rattle.locks.specs.declared.Stage.the-variants.{Out, Waiting, Holding}
 use Rattle.locks.specs.Stages.{isWaiting, ofLock}
-use Rattle.locks.specs.Lent.{Hierarchy, intervalWrong, coverRight}
+use Rattle.locks.specs.declared.Lock.{Lock}
+use Rattle.locks.specs.Lent.{Hierarchy, intervalWrong, coverRight, keepsNames, coversNames}
+use Rattle.locks.specs.Inner.{lockFits}
 use Rattle.locks.proofs.Tables.{lock-covered}
 use Rattle.parties.specs.declared.Entry.{Entry}
 use Rattle.parties.specs.Parties.{stageIn}
 use Rattle.arrivals.specs.Arrivals.{listedIn}
-use Rattle.parties.specs.Sound.{listsParties, listsOnce, isListed, listsWaiting, lockReal, intervalsReal, coversRight, holdersApart, heldUp, waitersHeldUp, soundParties}
+use Rattle.parties.specs.Sound.{listsParties, listsOnce, isListed, listsWaiting, lockReal, intervalsReal, coversRight, namesKept, namesCovered, holdersApart, heldUp, waitersHeldUp, soundParties}
 use Rattle.parties.specs.Inner.{entriesRight}
 
 -- the clauses one by one
@@ -27,6 +29,8 @@ pub record Clauses (H : Hierarchy) (entries : List Entry) (queue : List ℕ) (wa
   pub listed : listsWaiting entries queue waiting ≡ true
   pub real : intervalsReal entries ≡ true
   pub covers : coversRight H entries ≡ true
+  pub names : namesKept H entries ≡ true
+  pub covered : namesCovered H entries ≡ true
   pub apart : holdersApart entries ≡ true
   pub held : waitersHeldUp entries queue waiting ≡ true
 
@@ -35,6 +39,28 @@ stage-covered : (H : Hierarchy) (s : Stage) → anyBelow (H .n) (intervalWrong H
 stage-covered H Out right e = refl
 stage-covered H (Waiting l) right e = lock-covered H l right e
 stage-covered H (Holding l) right e = lock-covered H l right e
+
+-- what is asked of one lock, one by one
+pub record Fits (H : Hierarchy) (s : Stage) : Type 0 where
+  pub cover : ofLock (coverRight H) s ≡ true
+  pub names : ofLock (keepsNames H) s ≡ true
+  pub covered : ofLock (coversNames H) s ≡ true
+
+lock-fits : (H : Hierarchy) (l : Lock) → lockFits H l ≡ true → (coverRight H l ≡ true) × (keepsNames H l ≡ true) × (coversNames H l ≡ true)
+lock-fits H l e =
+    let two = and-left (coverRight H l && keepsNames H l) (coversNames H l) e in
+    (and-left (coverRight H l) (keepsNames H l) two, and-right (coverRight H l) (keepsNames H l) two, and-right (coverRight H l && keepsNames H l) (coversNames H l) e)
+
+fits-stage : (H : Hierarchy) (s : Stage) → ofLock (lockFits H) s ≡ true → Fits H s
+fits-stage H Out e = record { cover = refl; names = refl; covered = refl }
+fits-stage H (Waiting l) e = let f = lock-fits H l e in record { cover = f .0; names = f .1; covered = f .2 }
+fits-stage H (Holding l) e = let f = lock-fits H l e in record { cover = f .0; names = f .1; covered = f .2 }
+
+-- and all at once
+stage-fits : (H : Hierarchy) (s : Stage) → ofLock (coverRight H) s ≡ true → ofLock (keepsNames H) s ≡ true → ofLock (coversNames H) s ≡ true → ofLock (lockFits H) s ≡ true
+stage-fits H Out a b c = refl
+stage-fits H (Waiting l) a b c = and-both _ (coversNames H l) (and-both (coverRight H l) (keepsNames H l) a b) c
+stage-fits H (Holding l) a b c = and-both _ (coversNames H l) (and-both (coverRight H l) (keepsNames H l) a b) c
 
 -- and who is held up waits
 held-waits : (entries : List Entry) (earlier : List ℕ) (s : Stage) → heldUp entries earlier s ≡ true → isWaiting s ≡ true
@@ -51,9 +77,13 @@ module _ (H : Hierarchy) (entries : List Entry) (queue : List ℕ) (waiting : �
       let listed = listsWaiting entries queue waiting in
       let real = intervalsReal entries in
       let covers = coversRight H entries in
+      let names = namesKept H entries in
+      let covered = namesCovered H entries in
       let apart = holdersApart entries in
-      let s6 = and-left (parties && once && listed && real && covers && apart) (waitersHeldUp entries queue waiting) s in
-      let s5 = and-left (parties && once && listed && real && covers) apart s6 in
+      let s8 = and-left (parties && once && listed && real && covers && names && covered && apart) (waitersHeldUp entries queue waiting) s in
+      let s7 = and-left (parties && once && listed && real && covers && names && covered) apart s8 in
+      let s6 = and-left (parties && once && listed && real && covers && names) covered s7 in
+      let s5 = and-left (parties && once && listed && real && covers) names s6 in
       let s4 = and-left (parties && once && listed && real) covers s5 in
       let s3 = and-left (parties && once && listed) real s4 in
       let s2 = and-left (parties && once) listed s3 in
@@ -63,8 +93,10 @@ module _ (H : Hierarchy) (entries : List Entry) (queue : List ℕ) (waiting : �
         listed = and-right (parties && once) listed s3;
         real = and-right (parties && once && listed) real s4;
         covers = and-right (parties && once && listed && real) covers s5;
-        apart = and-right (parties && once && listed && real && covers) apart s6;
-        held = and-right (parties && once && listed && real && covers && apart) (waitersHeldUp entries queue waiting) s;
+        names = and-right (parties && once && listed && real && covers) names s6;
+        covered = and-right (parties && once && listed && real && covers && names) covered s7;
+        apart = and-right (parties && once && listed && real && covers && names && covered) apart s8;
+        held = and-right (parties && once && listed && real && covers && names && covered && apart) (waitersHeldUp entries queue waiting) s;
       }
 
   -- and back
@@ -73,10 +105,12 @@ module _ (H : Hierarchy) (entries : List Entry) (queue : List ℕ) (waiting : �
   from-clauses c =
       and-both _ (waitersHeldUp entries queue waiting)
       (and-both _ (holdersApart entries)
+      (and-both _ (namesCovered H entries)
+      (and-both _ (namesKept H entries)
       (and-both _ (coversRight H entries)
       (and-both _ (intervalsReal entries)
       (and-both _ (listsWaiting entries queue waiting)
-      (and-both (listsParties queue waiting) (listsOnce queue waiting) (c .parties) (c .once)) (c .listed)) (c .real)) (c .covers)) (c .apart)) (c .held)
+      (and-both (listsParties queue waiting) (listsOnce queue waiting) (c .parties) (c .once)) (c .listed)) (c .real)) (c .covers)) (c .names)) (c .covered)) (c .apart)) (c .held)
 
   -- a sound desk lists at most 32
   pub sound-few : soundParties H entries queue waiting ≡ true → waiting ≤ 32
@@ -95,7 +129,13 @@ module _ (H : Hierarchy) (entries : List Entry) (queue : List ℕ) (waiting : �
   listedWait = allBelow waiting (λ i. isWaiting (stageIn entries (listedIn queue i)))
 
   pub entries-right : Clauses H entries queue waiting → entriesRight H entries queue waiting ≡ true
-  entries-right c = and-both waitingListed (coversRight H entries) (and-right listedWait waitingListed (c .listed)) (c .covers)
+  entries-right c =
+      and-both waitingListed _ (and-right listedWait waitingListed (c .listed))
+      (all-of (λ party. ofLock (lockFits H) (stageIn entries party)) 32
+      (λ i h. stage-fits H (stageIn entries i) (at (coverRight H) (c .covers) i h) (at (keepsNames H) (c .names) i h) (at (coversNames H) (c .covered) i h)))
+    where
+      at : (p : Lock → Bool) → allBelow 32 (λ party. ofLock p (stageIn entries party)) ≡ true → (i : ℕ) → i < 32 → ofLock p (stageIn entries i) ≡ true
+      at p e i h = all-at (λ party. ofLock p (stageIn entries party)) 32 i e h
 
   -- TWO CLAUSES NEED NO PASS: the last two then decide
   pub sound-held : anyBelow (H .n) (intervalWrong H) ≡ false → (listsParties queue waiting && listsOnce queue waiting) ≡ true
@@ -104,10 +144,11 @@ module _ (H : Hierarchy) (entries : List Entry) (queue : List ℕ) (waiting : �
       bool (holdersApart entries && waitersHeldUp entries queue waiting)
       (λ both.
       let u : waitersHeldUp entries queue waiting ≡ true = and-right (holdersApart entries) (waitersHeldUp entries queue waiting) both in
-      let covers : coversRight H entries ≡ true = and-right waitingListed (coversRight H entries) entered in
+      let fit : (i : ℕ) → i < 32 → Fits H (stageIn entries i)
+      = λ i h. fits-stage H (stageIn entries i) (all-at (λ party. ofLock (lockFits H) (stageIn entries party)) 32 i (and-right waitingListed _ entered) h) in
       let real : intervalsReal entries ≡ true
       = all-of (λ party. ofLock lockReal (stageIn entries party)) 32
-      (λ i h. stage-covered H (stageIn entries i) right (all-at (λ party. ofLock (coverRight H) (stageIn entries party)) 32 i covers h)) in
+      (λ i h. stage-covered H (stageIn entries i) right (fit i h .cover)) in
       let wait : listedWait ≡ true
       = all-of (λ i. isWaiting (stageIn entries (listedIn queue i))) waiting
       (λ i h. held-waits entries (take i queue) (stageIn entries (listedIn queue i))
@@ -115,9 +156,11 @@ module _ (H : Hierarchy) (entries : List Entry) (queue : List ℕ) (waiting : �
       both ∙ sym (from-clauses (record {
         parties = and-left (listsParties queue waiting) (listsOnce queue waiting) list;
         once = and-right (listsParties queue waiting) (listsOnce queue waiting) list;
-        listed = and-both listedWait waitingListed wait (and-left waitingListed (coversRight H entries) entered);
+        listed = and-both listedWait waitingListed wait (and-left waitingListed _ entered);
         real = real;
-        covers = covers;
+        covers = all-of (λ party. ofLock (coverRight H) (stageIn entries party)) 32 (λ i h. fit i h .cover);
+        names = all-of (λ party. ofLock (keepsNames H) (stageIn entries party)) 32 (λ i h. fit i h .names);
+        covered = all-of (λ party. ofLock (coversNames H) (stageIn entries party)) 32 (λ i h. fit i h .covered);
         apart = and-left (holdersApart entries) (waitersHeldUp entries queue waiting) both;
         held = u;
       })))

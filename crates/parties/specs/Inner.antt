@@ -10,14 +10,15 @@ use Rattle.locks.specs.declared.Lock.{Lock}
 use Rattle.locks.specs.declared.Stage.{Stage}
 use Rattle.locks.specs.declared.Stage.the-variants.{Out, Waiting, Holding}
 use Rattle.locks.specs.Locks.{conflict, lockNumbered, modeNumber}
-use Rattle.locks.specs.Stages.{isWaiting}
+use Rattle.locks.specs.Stages.{isWaiting, ofLock}
 use Rattle.locks.specs.Lent.{Hierarchy}
+use Rattle.locks.specs.Inner.{lockFits}
 use Rattle.parties.specs.declared.Entry.{Entry}
 use Rattle.parties.specs.declared.Holds.{Holds}
 use Rattle.parties.specs.Parties.{stageIn, meetsHolder}
-use Rattle.parties.specs.Sound.{isListed, coversRight, holdersApart}
+use Rattle.parties.specs.Sound.{isListed, holdersApart}
 
--- LOCKS AS NUMBERS: three numbers each, mode, low and high; a row of a table. The lock of a row; a cover plays no part in a conflict
+-- LOCKS AS NUMBERS: three numbers each, mode, low and high; a row of a table. The lock of a row; cover and names play no part in a conflict
 abbrev pub rowOf : List ℕ → ℕ → Lock
 rowOf rows k = lockNumbered (getD rows (3 * k) 0) (getD rows (3 * k + 1) 0) (getD rows (3 * k + 2) 0)
 
@@ -63,9 +64,11 @@ pub record HoldsOf (entries : List Entry) (r : Holds) : Type 0 where
   pub meets : (l : Lock) → meetsHolder entries l ≡ meetsRow (r .rows) (r .count) l
   pub apart : holdersApart entries ≡ rowsApart (r .rows) (r .count)
 
--- each that waits is listed, and all covers are right
+-- each that waits is listed, and all covers and names are right
 abbrev pub entriesRight : Hierarchy → List Entry → List ℕ → ℕ → Bool
-entriesRight H entries queue waiting = allBelow 32 (λ party. not (isWaiting (stageIn entries party)) || isListed queue waiting party) && coversRight H entries
+entriesRight H entries queue waiting =
+    allBelow 32 (λ party. not (isWaiting (stageIn entries party)) || isListed queue waiting party)
+    && allBelow 32 (λ party. ofLock (lockFits H) (stageIn entries party))
 
 -- what one pass over the entries finds: a count over 32 where they are not right, else the holds of the holders
 pub record Gathered (H : Hierarchy) (entries : List Entry) (queue : List ℕ) (waiting : ℕ) (r : Holds) : Type 0 where

@@ -10,7 +10,7 @@ use Rattle.locks.specs.declared.Stage.{Stage}
 use Rattle.locks.specs.declared.Stage.the-variants.{Out, Waiting, Holding}
 use Rattle.locks.specs.Locks.{realInterval}
 use Rattle.locks.specs.Stages.{isWaiting, ofLock, holdersConflict}
-use Rattle.locks.specs.Lent.{Hierarchy, coverRight}
+use Rattle.locks.specs.Lent.{Hierarchy, coverRight, keepsNames, coversNames}
 use Rattle.parties.specs.declared.Entry.{Entry}
 use Rattle.parties.specs.Parties.{stageIn, meetsHolder, meetsWaiter}
 use Rattle.arrivals.specs.Arrivals.{listedIn}
@@ -45,6 +45,14 @@ intervalsReal entries = allBelow 32 (λ party. ofLock lockReal (stageIn entries 
 abbrev pub coversRight : Hierarchy → List Entry → Bool
 coversRight H entries = allBelow 32 (λ party. ofLock (coverRight H) (stageIn entries party))
 
+-- each hold and each waiting call keeps its names, 1 to 8 of them, each below n, ascending and each once (02, point 6)
+abbrev pub namesKept : Hierarchy → List Entry → Bool
+namesKept H entries = allBelow 32 (λ party. ofLock (keepsNames H) (stageIn entries party))
+
+-- the cover's interval contains those of the names, of all
+abbrev pub namesCovered : Hierarchy → List Entry → Bool
+namesCovered H entries = allBelow 32 (λ party. ofLock (coversNames H) (stageIn entries party))
+
 -- no two holders conflict
 abbrev pub holdersApart : List Entry → Bool
 holdersApart entries = allBelow 32 (λ party. allBelow party (λ other. not (holdersConflict (stageIn entries party) (stageIn entries other))))
@@ -63,5 +71,5 @@ waitersHeldUp entries queue waiting = allBelow waiting (λ i. heldUp entries (ta
 unfoldable pub soundParties : Hierarchy → List Entry → List ℕ → ℕ → Bool
 soundParties H entries queue waiting =
     listsParties queue waiting && listsOnce queue waiting && listsWaiting entries queue waiting
-    && intervalsReal entries && coversRight H entries
+    && intervalsReal entries && coversRight H entries && namesKept H entries && namesCovered H entries
     && holdersApart entries && waitersHeldUp entries queue waiting

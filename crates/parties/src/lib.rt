@@ -105,11 +105,13 @@ fn row_lock(m: u16, low: u16, high: u16) -> Lock
     ensures { λ r. ⌜ r ≡ lockNumbered m low high ⌝ }
 {
     let mode = locks::mode_when(m == 1, m == 2);
+    let names = naming::none();
     Lock {
         mode,
         cover: 0,
         low,
         high,
+        names,
     }
 }
 
@@ -194,7 +196,7 @@ fn put_call(rows: &mut [u16; ROWS], k: usize, s: Stage)
     }
 }
 
-// One pass over the entries: each that waits must be listed, and all covers must be right. The holds of the holders are gathered in rows;
+// One pass over the entries: each that waits must be listed, and all covers and names must be right. The holds of the holders are gathered in rows;
 // a count of 33 says that an entry is not right.
 fn gather(
     n: usize,

@@ -29,7 +29,7 @@ use Rattle.runs.proofs.Runs.{move-hierarchy}
 use Rattle.replay.specs.declared.Outcome.{Outcome}
 use Rattle.replay.specs.declared.Outcome.the-variants.{Refused}
 use Rattle.replay.specs.declared.Step.{Step}
-use Rattle.replay.specs.Replay.{enterCall, getCall, putCall, addCall, leaveCall, callOf, stepOf, StepAnswer, granted, waits, value}
+use Rattle.replay.specs.Replay.{enterCall, freshScratch, getCall, putCall, addCall, leaveCall, callOf, stepOf, StepAnswer, granted, waits, value}
 use Rattle.replay.specs.Replay.{stored, added, left, refused, enterLine, getLine, putLine, addLine, leaveLine, answerIn, stateOf, isStep, performStep, performed, performIf, perform}
 use Rattle.replay.specs.Answers.{stepMeaning, outcomeOf, partiesOf, Performs}
 use Rattle.replay.specs.Inner.{leftOutcome, PerformsCall, PerformsAny}
@@ -106,41 +106,43 @@ module _ (H : Hierarchy) (d : Desk) (bytes : List ℕ) (party : ℕ) (at-party :
       subst (λ (y : EnterResult). Performs (plain (r .desk) o) values (performed (afterEnter (partyIn bytes) (stateOf H d values) y))) same
       (performs _ values (afterEnter (partyIn bytes) (stateOf H d values) x) (e .0) refl (eo ∙ ap (λ (a : Answer Admission). outcomeOf (enterLine a)) (e .1)) (sym (enter-none (x .answer))))
 
-  pub got-performs : (node : ℕ) → node ≡ nodeIn bytes → (values : List ℕ) (r : GetStep) (o : Outcome) → Gets r (getStep H d party node values)
+  pub got-performs : (node : ℕ) → node ≡ nodeIn bytes → (values scratch : List ℕ) (r : GetStep) (o : Outcome) → Gets r scratch (getStep H d party node values freshScratch)
       → o ≡ outcomeOf (getLine (getMeaning (r .answer))) → PerformsCall (plain (r .desk) o) H d (getCall bytes) values values
   unfolding moveCall afterGet lend
-  got-performs node en values r o e eo =
-      let x : GetResult = getStep H d party node values in
-      let same : x ≡ getStep H d (partyIn bytes) (nodeIn bytes) values = rw (at-party, en) refl in
+  got-performs node en values scratch r o e eo =
+      let x : GetResult = getStep H d party node values freshScratch in
+      let same : x ≡ getStep H d (partyIn bytes) (nodeIn bytes) values freshScratch = rw (at-party, en) refl in
       subst (λ (y : GetResult). Performs (plain (r .desk) o) values (performed (afterGet (partyIn bytes) (nodeIn bytes) (stateOf H d values) y))) same
       (performs _ values (afterGet (partyIn bytes) (nodeIn bytes) (stateOf H d values) x) (e .0) refl (eo ∙ ap (λ (a : Answer ℕ). outcomeOf (getLine a)) (e .1)) (sym (get-none (x .answer))))
 
   -- put and add: what their step x leaves is what that of the record's fields, y, leaves
   changed-performs : (event : Answer (Unit {0}) → Event ℕ) → ((a : Answer (Unit {0})) → partiesOf (answerIn (event a)) ≡ replicate 32 0)
-      → (x y : PutResult) → x ≡ y → (values values′ : List ℕ) → length (x .values) ≡ length values
-      → (next : Desk) (a : Answer (Unit {0})) (o : Outcome) → (next ≡ x .desk) × (a ≡ x .answer) × (values′ ≡ x .values) → o ≡ outcomeOf (answerIn (event a))
+      → (x y : PutResult) → x ≡ y → (values values′ scratch : List ℕ) → length (x .values) ≡ length values
+      → (next : Desk) (a : Answer (Unit {0})) (o : Outcome) → (next ≡ x .desk) × (a ≡ x .answer) × (values′ ≡ x .values) × (scratch ≡ x .scratch) → o ≡ outcomeOf (answerIn (event a))
       → Performs (plain next o) values′ (performed (record { state = stateOf H (y .desk) (restored values (y .values)); event = event (y .answer) }))
-  changed-performs event none-listed x y same values values′ long next a o e eo =
+  changed-performs event none-listed x y same values values′ scratch long next a o e eo =
       let after : PutResult → Moved = λ z. record { state = stateOf H (z .desk) (restored values (z .values)); event = event (z .answer) } in
       subst (λ (z : PutResult). Performs (plain next o) values′ (performed (after z))) same
       (performs _ values′ (after x) (e .0) (e .2 ∙ sym (restored-full values (x .values) long))
       (eo ∙ ap (λ (b : Answer (Unit {0})). outcomeOf (answerIn (event b))) (e .1)) (sym (none-listed (x .answer))))
 
-  pub stored-performs : (node number : ℕ) → node ≡ nodeIn bytes → number ≡ valueIn bytes → (values values′ : List ℕ) (r : PutStep) (o : Outcome)
-      → Puts r values′ (putStep H d party node number values) → o ≡ outcomeOf (putLine (putMeaning (r .answer)))
+  pub stored-performs : (node number : ℕ) → node ≡ nodeIn bytes → number ≡ valueIn bytes → (values values′ scratch : List ℕ) (r : PutStep) (o : Outcome)
+      → Puts r values′ scratch (putStep H d party node number values freshScratch) → o ≡ outcomeOf (putLine (putMeaning (r .answer)))
       → PerformsCall (plain (r .desk) o) H d (putCall bytes) values values′
   unfolding moveCall afterPut lend
-  stored-performs node number en ev values values′ r o e eo =
-      let same : putStep H d party node number values ≡ putStep H d (partyIn bytes) (nodeIn bytes) (valueIn bytes) values = rw (at-party, en, ev) refl in
-      changed-performs (wrote (partyIn bytes) (nodeIn bytes) (valueIn bytes)) put-none _ _ same values values′ (put-length H d party node number values) (r .desk) (putMeaning (r .answer)) o e eo
+  stored-performs node number en ev values values′ scratch r o e eo =
+      let same : putStep H d party node number values freshScratch ≡ putStep H d (partyIn bytes) (nodeIn bytes) (valueIn bytes) values freshScratch = rw (at-party, en, ev) refl in
+      changed-performs (wrote (partyIn bytes) (nodeIn bytes) (valueIn bytes)) put-none _ _ same values values′ scratch
+      (put-length H d party node number values freshScratch) (r .desk) (putMeaning (r .answer)) o e eo
 
-  pub added-performs : (node number : ℕ) → node ≡ nodeIn bytes → number ≡ valueIn bytes → (values values′ : List ℕ) (r : AddStep) (o : Outcome)
-      → Adds r values′ (addStep H d party node number values) → o ≡ outcomeOf (addLine (addMeaning (r .answer)))
+  pub added-performs : (node number : ℕ) → node ≡ nodeIn bytes → number ≡ valueIn bytes → (values values′ scratch : List ℕ) (r : AddStep) (o : Outcome)
+      → Adds r values′ scratch (addStep H d party node number values freshScratch) → o ≡ outcomeOf (addLine (addMeaning (r .answer)))
       → PerformsCall (plain (r .desk) o) H d (addCall bytes) values values′
   unfolding moveCall afterAdd lend
-  added-performs node number en ev values values′ r o e eo =
-      let same : addStep H d party node number values ≡ addStep H d (partyIn bytes) (nodeIn bytes) (valueIn bytes) values = rw (at-party, en, ev) refl in
-      changed-performs (summed (partyIn bytes) (nodeIn bytes) (valueIn bytes)) add-none _ _ same values values′ (add-length H d party node number values) (r .desk) (addMeaning (r .answer)) o e eo
+  added-performs node number en ev values values′ scratch r o e eo =
+      let same : addStep H d party node number values freshScratch ≡ addStep H d (partyIn bytes) (nodeIn bytes) (valueIn bytes) values freshScratch = rw (at-party, en, ev) refl in
+      changed-performs (summed (partyIn bytes) (nodeIn bytes) (valueIn bytes)) add-none _ _ same values values′ scratch
+      (add-length H d party node number values freshScratch) (r .desk) (addMeaning (r .answer)) o e eo
 
   pub left-performs : (r : LeaveStep) (list : List ℕ) (o : Outcome) → Leaves r list (leaveStep H d party (replicate 32 0)) → o ≡ leftOutcome (leaveMeaning (r .answer))
       → PerformsAny (record { desk = r .desk; outcome = o; parties = list }) H d (leaveCall bytes)

@@ -60,13 +60,17 @@ builtOf rs = lent (sizeOf rs) (intervalTable (sizeOf rs) (edgeTable rs)) (edgeTa
 abbrev pub enterCall : List ℕ → Call
 enterCall r = enter (partyIn r) (modeNumbered (modeIn r)) (namesIn r) (nameCountIn r)
 
+-- the scratch that a get, put or add record is lent for its search: 256 bytes
+abbrev pub freshScratch : List ℕ
+freshScratch = replicate 256 0
+
 -- a get record: it is lent the values themselves
 abbrev pub getCall : List ℕ → Call
-getCall r = get (partyIn r) (nodeIn r) whole
+getCall r = get (partyIn r) (nodeIn r) whole freshScratch
 
 -- a put record: so is this
 abbrev pub putCall : List ℕ → Call
-putCall r = put (partyIn r) (nodeIn r) (valueIn r) whole
+putCall r = put (partyIn r) (nodeIn r) (valueIn r) whole freshScratch
 
 -- a leave record: it is lent 32 zeros
 abbrev pub leaveCall : List ℕ → Call
@@ -74,7 +78,7 @@ leaveCall r = leave (partyIn r) (replicate 32 0)
 
 -- an add record, laid out like put: lent what a put is
 abbrev pub addCall : List ℕ → Call
-addCall r = add (partyIn r) (nodeIn r) (valueIn r) whole
+addCall r = add (partyIn r) (nodeIn r) (valueIn r) whole freshScratch
 
 -- by its kind: 3 enter, 4 get, 5 put, 6 leave, and 7 add, the one left of those that a step can have
 abbrev pub callOf : List ℕ → Call

@@ -256,7 +256,17 @@ fn perform_get(
 {
     let party = octets::byte(bytes, 1) as usize;
     let node = octets::byte(bytes, 2) as usize;
-    let step = desk.get(n, intervals, edges, edge_count, party, node, values);
+    let mut scratch = [0u8; 256];
+    let step = desk.get(
+        n,
+        intervals,
+        edges,
+        edge_count,
+        party,
+        node,
+        values,
+        &mut scratch,
+    );
     let next = step.desk;
     let answer = step.answer;
     let GetAnswer::Value(v) = answer else {
@@ -289,7 +299,18 @@ fn perform_put(
     let party = octets::byte(bytes, 1) as usize;
     let node = octets::byte(bytes, 2) as usize;
     let value = octets::number8(bytes, 4);
-    let step = desk.put(n, intervals, edges, edge_count, party, node, value, values);
+    let mut scratch = [0u8; 256];
+    let step = desk.put(
+        n,
+        intervals,
+        edges,
+        edge_count,
+        party,
+        node,
+        value,
+        values,
+        &mut scratch,
+    );
     let answer = step.answer;
     let outcome = stored(answer);
     let next = step.desk;
@@ -339,7 +360,18 @@ fn perform_add(
     let party = octets::byte(bytes, 1) as usize;
     let node = octets::byte(bytes, 2) as usize;
     let number = octets::number8(bytes, 4);
-    let step = desk.add(n, intervals, edges, edge_count, party, node, number, values);
+    let mut scratch = [0u8; 256];
+    let step = desk.add(
+        n,
+        intervals,
+        edges,
+        edge_count,
+        party,
+        node,
+        number,
+        values,
+        &mut scratch,
+    );
     let answer = step.answer;
     let outcome = added(answer);
     let next = step.desk;

@@ -10,7 +10,7 @@ use Rattle.lists.specs.Lists.{over}
 use Rattle.lists.specs.Answer.{refusal}
 use Rattle.locks.specs.Lent.{Hierarchy, lowIn, highIn}
 use Rattle.desk.specs.declared.Desk.{Desk}
-use Rattle.desk.specs.Steps.{putOwn, addOwn, valueChecks, putUnless, putStep, sum64, addStep}
+use Rattle.desk.specs.Steps.{putOwn, addOwn, valueChecks, scratchLeft, putUnless, putStep, sum64, addStep}
 use Rattle.runs.specs.Run.{Lending, whole, part, lend, restored, Step, lentTo}
 
 -- a place of what is lent, where it is long enough
@@ -64,27 +64,30 @@ module _ (H : Hierarchy) (two-each : length (H .intervals) ≡ 2 * H .n) (x : St
   high-lent = lend-at (H .intervals) (x .intervals) (2 * node + 1) (omega arith) (omega arith)
 
 -- A PUT OR ADD changes no desk,
-unless-same : (o : Option ℕ) (d : Desk) (node value : ℕ) (values : List ℕ) → (putUnless o d node value values) .desk ≡ d
-unless-same none d node value values = refl
-unless-same (some k) d node value values = refl
-
-pub put-same : (H : Hierarchy) (d : Desk) (party node value : ℕ) (values : List ℕ) → (putStep H d party node value values) .desk ≡ d
-unfolding putStep
-put-same H d party node value values = unless-same (refusal (valueChecks H d party node values (putOwn d party))) d node value values
-
-pub add-same : (H : Hierarchy) (d : Desk) (party node number : ℕ) (values : List ℕ) → (addStep H d party node number values) .desk ≡ d
-unfolding addStep
-add-same H d party node number values = unless-same (refusal (valueChecks H d party node values (addOwn d party))) d node (sum64 (getD values node 0) number) values
+unless-same : (o : Option ℕ) (d : Desk) (node value : ℕ) (values scratch : List ℕ) → (putUnless o d node value values scratch) .desk ≡ d
+unless-same none d node value values scratch = refl
+unless-same (some k) d node value values scratch = refl
 
 -- and leaves as many values as it was lent
-unless-length : (o : Option ℕ) (d : Desk) (node value : ℕ) (values : List ℕ) → length ((putUnless o d node value values) .values) ≡ length values
-unless-length none d node value values = length-set values node value
-unless-length (some k) d node value values = refl
+unless-length : (o : Option ℕ) (d : Desk) (node value : ℕ) (values scratch : List ℕ) → length ((putUnless o d node value values scratch) .values) ≡ length values
+unless-length none d node value values scratch = length-set values node value
+unless-length (some k) d node value values scratch = refl
 
-pub put-length : (H : Hierarchy) (d : Desk) (party node value : ℕ) (values : List ℕ) → length ((putStep H d party node value values) .values) ≡ length values
-unfolding putStep
-put-length H d party node value values = unless-length (refusal (valueChecks H d party node values (putOwn d party))) d node value values
+module _ (H : Hierarchy) (d : Desk) (party node : ℕ) where
+  pub put-same : (value : ℕ) (values scratch : List ℕ) → (putStep H d party node value values scratch) .desk ≡ d
+  unfolding putStep
+  put-same value values scratch = unless-same (refusal (valueChecks H d party node values scratch (putOwn d party))) d node value values (scratchLeft H values scratch)
 
-pub add-length : (H : Hierarchy) (d : Desk) (party node number : ℕ) (values : List ℕ) → length ((addStep H d party node number values) .values) ≡ length values
-unfolding addStep
-add-length H d party node number values = unless-length (refusal (valueChecks H d party node values (addOwn d party))) d node (sum64 (getD values node 0) number) values
+  pub put-length : (value : ℕ) (values scratch : List ℕ) → length ((putStep H d party node value values scratch) .values) ≡ length values
+  unfolding putStep
+  put-length value values scratch = unless-length (refusal (valueChecks H d party node values scratch (putOwn d party))) d node value values (scratchLeft H values scratch)
+
+  pub add-same : (number : ℕ) (values scratch : List ℕ) → (addStep H d party node number values scratch) .desk ≡ d
+  unfolding addStep
+  add-same number values scratch =
+      unless-same (refusal (valueChecks H d party node values scratch (addOwn d party))) d node (sum64 (getD values node 0) number) values (scratchLeft H values scratch)
+
+  pub add-length : (number : ℕ) (values scratch : List ℕ) → length ((addStep H d party node number values scratch) .values) ≡ length values
+  unfolding addStep
+  add-length number values scratch =
+      unless-length (refusal (valueChecks H d party node values scratch (addOwn d party))) d node (sum64 (getD values node 0) number) values (scratchLeft H values scratch)

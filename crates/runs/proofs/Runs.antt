@@ -8,9 +8,9 @@ use Rattle.runs.specs.Over.{Between, stateOver, betweenOf, runOver}
 call-hierarchy : (K : Hierarchy) (c : Call) (s : State) → ((moveCall K c s) .state) .hierarchy ≡ s .hierarchy
 unfolding moveCall afterEnter afterGet afterPut afterAdd afterLeave
 call-hierarchy K (enter party mode names nameCount) s = refl
-call-hierarchy K (get party node l) s = refl
-call-hierarchy K (put party node value l) s = refl
-call-hierarchy K (add party node number l) s = refl
+call-hierarchy K (get party node l scratch) s = refl
+call-hierarchy K (put party node value l scratch) s = refl
+call-hierarchy K (add party node number l scratch) s = refl
 call-hierarchy K (leave party list) s = refl
 
 -- one step

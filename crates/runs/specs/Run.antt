@@ -25,12 +25,12 @@ lend table (part places behind) = take places (table ++ behind)
 unfoldable pub restored : List ℕ → List ℕ → List ℕ
 restored table buffer = take (length table) (over buffer table)
 
--- which step it is, and all that it is given besides the hierarchy and the desk
+-- which step it is, and all that it is given besides the hierarchy and the desk: a scratch is of any length and has anything in it, also what an earlier step left there
 pub data Call : Type 0 where
   enter : (party : ℕ) (mode : Mode) (names : List ℕ) (nameCount : ℕ) → Call
-  get : (party node : ℕ) (values : Lending) → Call
-  put : (party node value : ℕ) (values : Lending) → Call
-  add : (party node number : ℕ) (values : Lending) → Call
+  get : (party node : ℕ) (values : Lending) (scratch : List ℕ) → Call
+  put : (party node value : ℕ) (values : Lending) (scratch : List ℕ) → Call
+  add : (party node number : ℕ) (values : Lending) (scratch : List ℕ) → Call
   leave : (party : ℕ) (list : List ℕ) → Call
 
 -- a step of a list: its call, and what it is lent of the two tables
@@ -112,9 +112,9 @@ afterLeave party s r =
 -- the step on the hierarchy as lent
 unfoldable pub moveCall : Hierarchy → Call → State → Moved
 moveCall H (enter party mode names nameCount) s = afterEnter party s (enterStep H (s .desk) party mode names nameCount)
-moveCall H (get party node l) s = afterGet party node s (getStep H (s .desk) party node (lend (s .values) l))
-moveCall H (put party node value l) s = afterPut party node value s (putStep H (s .desk) party node value (lend (s .values) l))
-moveCall H (add party node number l) s = afterAdd party node number s (addStep H (s .desk) party node number (lend (s .values) l))
+moveCall H (get party node l scratch) s = afterGet party node s (getStep H (s .desk) party node (lend (s .values) l) scratch)
+moveCall H (put party node value l scratch) s = afterPut party node value s (putStep H (s .desk) party node value (lend (s .values) l) scratch)
+moveCall H (add party node number l scratch) s = afterAdd party node number s (addStep H (s .desk) party node number (lend (s .values) l) scratch)
 moveCall H (leave party list) s = afterLeave party s (leaveStep H (s .desk) party list)
 
 -- one step of a list

@@ -20,7 +20,8 @@ use Rattle.locks.specs.declared.Stage.{Stage}
 use Rattle.locks.specs.declared.Stage.the-variants.{Out, Waiting, Holding}
 use Rattle.locks.specs.Locks.{conflict, realInterval}
 use Rattle.locks.specs.Stages.{isWaiting, againstHolder, againstWaiter, ofLock}
-use Rattle.locks.specs.Lent.{Hierarchy, coverRight}
+use Rattle.locks.specs.Lent.{Hierarchy, coverRight, keepsNames, coversNames}
+use Rattle.parties.proofs.Clauses.{Fits}
 use Rattle.parties.specs.declared.Entry.{Entry}
 use Rattle.parties.specs.Parties.{entryOf, stageIn, meetsHolder}
 use Rattle.parties.specs.Sound.{heldUp}
@@ -41,6 +42,13 @@ stage-any f (e ∷ es) zero (suc q) x h k = k
 stage-any f (e ∷ es) (suc p) zero x h k = k
 stage-any f (e ∷ es) (suc p) (suc q) x h k = stage-any f es p q x h k
 
+-- A LOCK that may be held or waited for: its interval is real, its cover and its names are right, and the cover's interval contains theirs
+pub record Fit (H : Hierarchy) (l : Lock) : Type 0 where
+  pub real : realInterval (l .low) (l .high) ≡ true
+  pub cover : coverRight H l ≡ true
+  pub names : keepsNames H l ≡ true
+  pub covered : coversNames H l ≡ true
+
 -- A CHANGE of a party's stage to x, and of the list with it: others stay on it or off it, and the party is on it if x waits
 record Changed (p : ℕ) (x : Stage) (list new : List ℕ) : Type 0 where
   once : Distinct new
@@ -50,10 +58,10 @@ record Changed (p : ℕ) (x : Stage) (list new : List ℕ) : Type 0 where
   off : isWaiting x ≡ false → In p new → ⊥
 
 changed : (H : Hierarchy) (es : List Entry) (p : ℕ) (x : Stage) (list new : List ℕ) → Orderly H es list → p < 32 → Changed p x list new
-    → ofLock (λ l. realInterval (l .low) (l .high)) x ≡ true → ofLock (coverRight H) x ≡ true
+    → ofLock (λ l. realInterval (l .low) (l .high)) x ≡ true → Fits H x
     → ((q : ℕ) (g h : Lock) → x ≡ Holding g → stageIn es q ≡ Holding h → conflict h g ≡ false)
     → Orderly H (set es p (entryOf x)) new
-changed H es p x list new o b c real right alone = record {
+changed H es p x list new o b c real fit alone = record {
   long = length-set es p (entryOf x) ∙ o .long;
   parties = λ q m. by q (λ e. omega (arith, e)) (λ ne. o .parties q (c .there q ne m));
   once = c .once;
@@ -64,7 +72,11 @@ changed H es p x list new o b c real right alone = record {
       (λ e. subst (λ (k : ℕ). In k new) (sym e) (c .on (sym (ap isWaiting (stage q e)) ∙ w)))
       (λ ne. c .back q ne (o .listed q h (sym (ap isWaiting (stage-other es p q x ne)) ∙ w)));
   real = λ q k. stage-any (ofLock (λ l. realInterval (l .low) (l .high))) es p q x real (o .real q k);
-  covers = λ q k. stage-any (ofLock (coverRight H)) es p q x right (o .covers q k);
+  fits = λ q k. record {
+    cover = stage-any (ofLock (coverRight H)) es p q x (fit .cover) (o .fits q k .cover);
+    names = stage-any (ofLock (keepsNames H)) es p q x (fit .names) (o .fits q k .names);
+    covered = stage-any (ofLock (coversNames H)) es p q x (fit .covered) (o .fits q k .covered);
+  };
   apart = λ q r g h ne eg eh. free q r g h ne (set-stage es p q x g eg) (set-stage es p r x h eh);
 }
   where
@@ -87,8 +99,8 @@ waits-apart {es = es} o p q n m e = not-both (isWaiting (stageIn es p)) (ap (λ 
 
 -- a call made: a party that is out waits, last on the list
 pub called : (H : Hierarchy) (es : List Entry) (list : List ℕ) (p : ℕ) (l : Lock) → Orderly H es list → p < 32 → stageIn es p ≡ Out
-    → realInterval (l .low) (l .high) ≡ true → coverRight H l ≡ true → Orderly H (set es p (entryOf (Waiting l))) (list ++ (p ∷ []))
-called H es list p l o b out real right =
+    → Fit H l → Orderly H (set es p (entryOf (Waiting l))) (list ++ (p ∷ []))
+called H es list p l o b out fit =
     changed H es p (Waiting l) list (list ++ (p ∷ [])) o b
     (record {
       once = distinct-last list p (o .once) (λ m. waits-apart o p p (ap isWaiting out) m refl);
@@ -97,7 +109,7 @@ called H es list p l o b out real right =
       on = λ w. in-between p list [];
       off = λ w m. true≢false w;
     })
-    real right
+    (fit .real) (record { cover = fit .cover; names = fit .names; covered = fit .covered })
     (λ q g h e k. not-both true refl cc)
   where
     front : (q : ℕ) → q ≢ p → (p ≡ q) ⊎ In q (list ++ []) → In q list
@@ -116,7 +128,7 @@ ended H es list p o b =
       on = λ w. absurd (true≢false (sym w));
       off = λ w m. eqb-false p p (not-true (eqb p p) (keep-in (λ other. not (eqb other p)) p list m .1)) refl;
     })
-    refl refl
+    refl (record { cover = refl; names = refl; covered = refl })
     (λ q g h e k. not-both true refl cc)
 
 -- no holder conflicts with a lock that meets none
@@ -128,8 +140,8 @@ no-holder es l long free q g h e k =
 
 -- a call granted at once: a party that is out holds
 pub admitted : (H : Hierarchy) (es : List Entry) (list : List ℕ) (p : ℕ) (l : Lock) → Orderly H es list → p < 32 → stageIn es p ≡ Out
-    → realInterval (l .low) (l .high) ≡ true → coverRight H l ≡ true → meetsHolder es l ≡ false → Orderly H (set es p (entryOf (Holding l))) list
-admitted H es list p l o b out real right free =
+    → Fit H l → meetsHolder es l ≡ false → Orderly H (set es p (entryOf (Holding l))) list
+admitted H es list p l o b out fit free =
     changed H es p (Holding l) list list o b
     (record {
       once = o .once;
@@ -138,7 +150,7 @@ admitted H es list p l o b out real right free =
       on = λ w. absurd (true≢false (sym w));
       off = λ w m. waits-apart o p p (ap isWaiting out) m refl;
     })
-    real right (no-holder es l (o .long) free)
+    (fit .real) (record { cover = fit .cover; names = fit .names; covered = fit .covered }) (no-holder es l (o .long) free)
 
 -- a waiter granted: it holds, and is off the list
 pub granted : (H : Hierarchy) (es : List Entry) (stay after : List ℕ) (p : ℕ) (l : Lock) → Orderly H es (stay ++ (p ∷ after)) → stageIn es p ≡ Waiting l
@@ -152,10 +164,12 @@ granted H es stay after p l o w free =
       on = λ w. absurd (true≢false (sym w));
       off = λ w. distinct-between stay after p (o .once) .1;
     })
-    (rw w at (o .real p (o .parties p (in-between p stay after))))
-    (rw w at (o .covers p (o .parties p (in-between p stay after))))
+    (rw w at (o .real p below)) (record { cover = rw w at (o .fits p below .cover); names = rw w at (o .fits p below .names); covered = rw w at (o .fits p below .covered) })
     (no-holder es l (o .long) free)
   where
+    below : p < 32
+    below = o .parties p (in-between p stay after)
+
     rest : (q : ℕ) → q ≢ p → (p ≡ q) ⊎ In q (stay ++ after) → In q (stay ++ after)
     rest q ne (inl e) = absurd (ne (sym e))
     rest q ne (inr m) = m

@@ -6,29 +6,30 @@ use mathlib.Core.Bool.{Bool, true, false, not, _&&_}
 use mathlib.Core.Option.{Option, none, some}
 use Prim.Native.Nat.{ℕ, _≤_, _<_}
 use native.Mathlib.Omega.{arith}
-use lib.Dec.{leb, ltb}
-use lib.ListN.{length, take}
+use lib.Dec.{ltb}
+use lib.ListN.{length, take, length-take}
 use lib.Seq.{length-take-le}
-use borrow.Author.Tests.{leb-true, ltb-true, ltb-false, not-false}
-use Rattle.lists.specs.Lists.{anyBelow, any}
+use borrow.Author.Tests.{ltb-false}
+use Rattle.lists.specs.Lists.{anyBelow}
 use Rattle.lists.specs.Answer.{Answer, done, refused, Check}
 use Rattle.intervals.specs.Cover.{intervalAt, callInterval, IsCover}
 use Rattle.intervals.specs.declared.Interval.{Interval}
-use Rattle.lists.proofs.Bools.{bool, not-both, and-left, or-left, or-right}
+use Rattle.lists.proofs.Bools.{not-both}
 use Rattle.lists.proofs.Refusals.{refusal-none}
 use Rattle.lists.proofs.Members.{In, head}
-use Rattle.lists.proofs.Distinct.{any-in}
 use Rattle.interval_laws.specs.Covers.{Rooted}
-use Rattle.interval_laws.proofs.Covers.{contains-by, cover-is, one-name-again}
+use Rattle.interval_laws.proofs.Laws.{call-bounds}
+use Rattle.interval_laws.proofs.Covers.{contains-ends, contains-by, cover-is, one-name-again}
 use Rattle.locks.specs.declared.Mode.{Mode}
 use Rattle.locks.specs.declared.Lock.{Lock}
 use Rattle.locks.specs.declared.Stage.the-variants.{Waiting, Holding}
 use Rattle.desk.specs.declared.Desk.{Desk}
-use Rattle.locks.specs.Lent.{Hierarchy, lowIn, highIn, coverIn, intervalWrong, namesWrong, lockOn}
+use Rattle.locks.specs.Lent.{Hierarchy, lowIn, highIn, coverIn, intervalWrong, namesWrong, lockFor, insideLock}
 use Rattle.locks.proofs.Tables.{not-wrong}
 use Rattle.desk.specs.Desks.{stageAt}
 use Rattle.desk.specs.Steps.{enterOwn, granted, StepFacts, Admission, waits, enterRefusal, free, enterIf, enterUnless, enterStep}
 use Rattle.desk.proofs.Facts.{step-own, step-facts}
+use Rattle.desk.proofs.Called.{names-few, names-nodes}
 use Rattle.history.proofs.Facts.{right-ordered}
 use Rattle.soundness.proofs.Changes.{stage-same}
 
@@ -47,7 +48,7 @@ module _ (H : Hierarchy) (d : Desk) (party : ℕ) (mode : Mode) (names : List �
 
   -- and its lock
   abbrev lock : Lock
-  lock = lockOn H mode (coverIn H called)
+  lock = lockFor H mode called
 
   -- what it alone looks at
   abbrev own : List Check
@@ -66,17 +67,15 @@ module _ (H : Hierarchy) (d : Desk) (party : ℕ) (mode : Mode) (names : List �
   -- it has a name,
   pub enter-some : 1 ≤ length called
   enter-some =
-      let long = ltb-false (length names) nameCount (facts .own-lent) in
-      let right = not-false (leb 1 nameCount && leb nameCount 8) (or-left (not (leb 1 nameCount && leb nameCount 8)) (any (λ node. not (ltb node (H .n))) called) named) in
-      omega (arith, length-take-le nameCount names long, leb-true 1 nameCount (and-left (leb 1 nameCount) (leb nameCount 8) right))
+      omega (arith, length-take-le nameCount names (ltb-false (length names) nameCount (facts .own-lent)), names-few (H .n) names nameCount named .0)
+
+  -- eight at most,
+  pub enter-few : length called ≤ 8
+  enter-few = omega (arith, length-take nameCount names, names-few (H .n) names nameCount named .1)
 
   -- and each is a node
   pub enter-nodes : (r : ℕ) → In r called → r < H .n
-  enter-nodes r i =
-      let right = or-right (not (leb 1 nameCount && leb nameCount 8)) (any (λ node. not (ltb node (H .n))) called) named in
-      bool (ltb r (H .n))
-      (ltb-true r (H .n))
-      (λ e. not-both (any (λ node. not (ltb node (H .n))) called) (any-in (λ node. not (ltb node (H .n))) i (ap not e)) right)
+  enter-nodes = names-nodes (H .n) names nameCount named
 
   -- at the desk that it hands back, from one with 32 entries, the party holds this lock, or waits for it;
   pub enter-stage : length (d .entries) ≡ 32
@@ -99,6 +98,13 @@ module _ (H : Hierarchy) (d : Desk) (party : ℕ) (mode : Mode) (names : List �
       by [] l f = absurd (omega arith)
       by (name ∷ ns) l f = cover-is (H .n) (H .intervals) rooted name ns f
 
+  -- whose interval, the lock's, contains each name's;
+  pub enter-covers : (name : ℕ) → In name called → insideLock H name lock ≡ true
+  enter-covers name i =
+      let b = call-bounds (H .intervals) called enter-some in
+      let e = contains-ends (intervalAt (H .intervals) (lock .cover)) (callInterval (H .intervals) called) (enter-cover .around) in
+      contains-by (intervalAt (H .intervals) (lock .cover)) (intervalAt (H .intervals) name) (omega (arith, e .0, b .low-each name i)) (omega (arith, e .1, b .high-each name i))
+
   -- and where the call names one node, however often, the lock has that node's interval
   pub enter-one : (x : ℕ) → ((r : ℕ) → In r called → r ≡ x) → (lock .low ≡ lowIn H x) × (lock .high ≡ highIn H x)
   enter-one x same = let e = by called enter-some enter-nodes same in (ap (λ (a : Interval). a .low) e, ap (λ (a : Interval). a .high) e)
@@ -117,7 +123,7 @@ unfolding enterStep
 granted-cover H d party mode names nameCount c e = by (enterRefusal H d party names nameCount) refl e
   where
     l : Lock
-    l = lockOn H mode (coverIn H (take nameCount names))
+    l = lockFor H mode (take nameCount names)
 
     coverOfAnswer : Answer Admission → ℕ
     coverOfAnswer (done (granted cover)) = cover

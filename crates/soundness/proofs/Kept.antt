@@ -4,12 +4,12 @@ use mathlib.Core.Logic.{_≢_}
 use mathlib.Core.List.{List, [], _∷_, _++_, append-nil}
 use mathlib.Core.Bool.{Bool, true, false, not, _||_, or-true}
 use mathlib.Core.Option.{Option, none, some}
-use Prim.Native.Nat.{ℕ, _<_}
+use Prim.Native.Nat.{ℕ, _≤_, _<_}
 use native.Mathlib.Omega.{arith}
 use lib.Dec.{eqb, ltb}
 use lib.ListN.{length, set, take, length-set, length-append}
 use lib.Seq.{append-snoc}
-use borrow.Author.Tests.{eq-eqb, lt-ltb, not-true, not-false}
+use borrow.Author.Tests.{eq-eqb, lt-ltb, le-leb, not-true, not-false}
 use Rattle.lists.specs.Lists.{keep}
 use Rattle.lists.specs.Answer.{Check}
 use Rattle.hierarchy.specs.Hierarchy.{sizeWrong}
@@ -25,8 +25,9 @@ use Rattle.locks.specs.declared.Mode.{Mode}
 use Rattle.locks.specs.declared.Lock.{Lock}
 use Rattle.locks.specs.declared.Stage.{Stage}
 use Rattle.locks.specs.declared.Stage.the-variants.{Out, Waiting, Holding}
-use Rattle.locks.specs.Locks.{realInterval}
-use Rattle.locks.specs.Lent.{Hierarchy, lowIn, highIn, coverIn, coverRight, lockOn}
+use Rattle.naming.specs.Names.{ascending, namesOf, named}
+use Rattle.naming.proofs.Gathering.{ascending-most}
+use Rattle.locks.specs.Lent.{Hierarchy, lowIn, highIn, coverIn, lockFor, insideLock}
 use Rattle.locks.specs.Stages.{isOut, isWaiting, againstHolder, againstWaiter}
 use Rattle.locks.proofs.Tables.{not-wrong}
 use Rattle.parties.specs.declared.Entry.{Entry}
@@ -40,9 +41,11 @@ use Rattle.desk.specs.Steps.{leaveOwn, enterOwn, free, grantTo, queueLast, ente
 use Rattle.desk.specs.Steps.{enterStep, getStep, putStep, addStep, afterLeaving, leaveWith, leaveRefusal, leaveUnless, leaveStep}
 use Rattle.desk.proofs.Facts.{step-own, step-facts}
 use Rattle.history.proofs.Facts.{sweep-length}
+use Rattle.soundness.proofs.Named.{every-of, ascending-rises, ascending-some, ascending-in, named-names}
+use Rattle.soundness.proofs.Covers.{enter-some, enter-few, enter-nodes, enter-covers}
 use Rattle.soundness.proofs.Laws.{unchanged-get, unchanged-put, unchanged-add}
 use Rattle.soundness.proofs.Orderly.{Shaped, Reads, Orderly, HeldUp, sound-reads, sound-orderly, sound-held, made-sound}
-use Rattle.soundness.proofs.Changes.{stage-same, stage-other, waits-apart, called, ended, admitted, granted, still-meets, up-set, up-last}
+use Rattle.soundness.proofs.Changes.{Fit, stage-same, stage-other, waits-apart, called, ended, admitted, granted, still-meets, up-set, up-last}
 
 -- SHAPE: a fresh desk has it
 pub fresh-shaped : Shaped freshDesk
@@ -55,7 +58,7 @@ unfolding enterStep
 enter-shaped H d party mode names nameCount shape = by (enterRefusal H d party names nameCount)
   where
     l : Lock
-    l = lockOn H mode (coverIn H (take nameCount names))
+    l = lockFor H mode (take nameCount names)
 
     test : (b : Bool) → Shaped ((enterIf b d party l) .desk)
     test true = record { entries = length-set (d .entries) party (entryOf (Holding l)) ∙ shape .entries; queue = places-length (queueOf d) }
@@ -66,14 +69,15 @@ enter-shaped H d party mode names nameCount shape = by (enterRefusal H d party n
     by none = test (free d l)
 
 -- get, put and add keep it
-pub get-shaped : (H : Hierarchy) (d : Desk) (party node : ℕ) (values : List ℕ) → Shaped d → Shaped ((getStep H d party node values) .desk)
-get-shaped H d party node values shape = rw (unchanged-get H d party node values) shape
+module _ (H : Hierarchy) (d : Desk) (party node : ℕ) where
+  pub get-shaped : (values scratch : List ℕ) → Shaped d → Shaped ((getStep H d party node values scratch) .desk)
+  get-shaped values scratch shape = rw (unchanged-get H d party node values scratch) shape
 
-pub put-shaped : (H : Hierarchy) (d : Desk) (party node value : ℕ) (values : List ℕ) → Shaped d → Shaped ((putStep H d party node value values) .desk)
-put-shaped H d party node value values shape = rw (unchanged-put H d party node value values) shape
+  pub put-shaped : (value : ℕ) (values scratch : List ℕ) → Shaped d → Shaped ((putStep H d party node value values scratch) .desk)
+  put-shaped value values scratch shape = rw (unchanged-put H d party node value values scratch) shape
 
-pub add-shaped : (H : Hierarchy) (d : Desk) (party node number : ℕ) (values : List ℕ) → Shaped d → Shaped ((addStep H d party node number values) .desk)
-add-shaped H d party node number values shape = rw (unchanged-add H d party node number values) shape
+  pub add-shaped : (number : ℕ) (values scratch : List ℕ) → Shaped d → Shaped ((addStep H d party node number values scratch) .desk)
+  add-shaped number values scratch shape = rw (unchanged-add H d party node number values scratch) shape
 
 -- leave keeps it
 pub leave-shaped : (H : Hierarchy) (d : Desk) (party : ℕ) (list : List ℕ) → Shaped d → Shaped ((leaveStep H d party list) .desk)
@@ -94,7 +98,7 @@ leave-shaped H d party list shape = by (leaveRefusal H d party list)
 cover-below : (H : Hierarchy) (names : List ℕ) → sizeWrong (H .n) ≡ false → coverIn H names < H .n
 cover-below H names sized = closest-below (H .intervals) (callInterval (H .intervals) names) (H .n) (right-size (H .n) sized .0)
 
--- ENTER, of a party that is out, with a lock whose interval and cover are right
+-- ENTER, of a party that is out, with a lock that may be held
 is-out : (x : Stage) → isOut x ≡ true → x ≡ Out
 is-out Out e = refl
 is-out (Waiting l) e = not-both true refl (sym e)
@@ -106,7 +110,7 @@ against-waits l (Waiting w) t = refl
 against-waits l (Holding h) t = t
 
 module _ (H : Hierarchy) (d : Desk) (party : ℕ) (l : Lock) (shape : Shaped d) (sound : soundDesk H d ≡ true) (below : party < 32) (out : stageAt d party ≡ Out)
-    (real : realInterval (l .low) (l .high) ≡ true) (right : coverRight H l ≡ true) where
+    (fit : Fit H l) where
   reads : Reads d (queueOf d)
   reads = sound-reads H d shape sound
 
@@ -126,7 +130,7 @@ module _ (H : Hierarchy) (d : Desk) (party : ℕ) (l : Lock) (shape : Shaped d) 
   grant-sound : free d l ≡ true → soundDesk H (grantTo d party l) ≡ true
   grant-sound f =
       made-sound H (grantTo d party l) (queueOf d) refl (reads .count)
-      (admitted H (d .entries) (queueOf d) party l orderly below out real right
+      (admitted H (d .entries) (queueOf d) party l orderly below out fit
       (none-of (λ other. againstHolder l (stageAt d other)) 32 (λ q h. or-left (againstHolder l (stageAt d q)) (againstWaiter l (stageAt d q))
       (any-none (λ other. againstHolder l (stageAt d other) || againstWaiter l (stageAt d other)) 32 q (not-true _ f) h))))
       (up (Holding l))
@@ -135,7 +139,7 @@ module _ (H : Hierarchy) (d : Desk) (party : ℕ) (l : Lock) (shape : Shaped d) 
   queue-sound : free d l ≡ false → soundDesk H (queueLast d party l) ≡ true
   queue-sound f =
       made-sound H (queueLast d party l) (queueOf d ++ (party ∷ [])) refl (omega (arith, reads .count, length-append (queueOf d) (party ∷ [])))
-      (called H (d .entries) (queueOf d) party l orderly below out real right)
+      (called H (d .entries) (queueOf d) party l orderly below out fit)
       (up-last fs (queueOf d) party (up (Waiting l)) (rw (stage-same (d .entries) party (Waiting l) (omega (arith, shape .entries)))
       (by (any-some (λ other. againstHolder l (stageAt d other) || againstWaiter l (stageAt d other)) 32 (not-false _ f)))))
     where
@@ -159,40 +163,64 @@ module _ (H : Hierarchy) (d : Desk) (party : ℕ) (l : Lock) (shape : Shaped d) 
   enter-if true f = grant-sound f
   enter-if false f = queue-sound f
 
+-- THE LOCK OF A CALL that is not refused may be held: its names are those given, ascending and each once, and the cover contains them
+pub call-fit : (H : Hierarchy) (d : Desk) (party : ℕ) (mode : Mode) (names : List ℕ) (nameCount : ℕ) → enterRefusal H d party names nameCount ≡ none
+    → Fit H (lockFor H mode (take nameCount names))
+call-fit H d party mode names nameCount e =
+    let f = step-facts H d party (ltb (length names) nameCount) (enterOwn H d party names nameCount) e in
+    let b : cover < H .n = cover-below H given (f .sized) in
+    record {
+      real = not-wrong H cover (f .intervals-right) b .0;
+      cover = rw (lt-ltb cover (H .n) b, eq-eqb (lowIn H cover) (lowIn H cover) refl, eq-eqb (highIn H cover) (highIn H cover) refl);
+      names = rw (
+        kept,
+        le-leb 1 (length (ascending given)) (ascending-some given (enter-some H d party mode names nameCount e)),
+        le-leb (length (ascending given)) 8 few,
+        every-of (λ name. ltb name (H .n)) (ascending given) (λ name i. lt-ltb name (H .n) (enter-nodes H d party mode names nameCount e name (ascending-in name given i))),
+      ) (ascending-rises given);
+      covered = rw kept (every-of (λ name. insideLock H name (lockFor H mode given)) (ascending given)
+          (λ name i. enter-covers H d party mode names nameCount e name (ascending-in name given i)));
+    }
+  where
+    given : List ℕ
+    given = take nameCount names
+
+    cover : ℕ
+    cover = coverIn H given
+
+    few : length (ascending given) ≤ 8
+    few = omega (arith, ascending-most given, enter-few H d party mode names nameCount e)
+
+    kept : namesOf (named (ascending given)) ≡ ascending given
+    kept = named-names (ascending given) few
+
 -- ENTER hands back a sound desk
 pub enter-sound : (H : Hierarchy) (d : Desk) (party : ℕ) (mode : Mode) (names : List ℕ) (nameCount : ℕ) → Shaped d → soundDesk H d ≡ true
     → soundDesk H ((enterStep H d party mode names nameCount) .desk) ≡ true
 unfolding enterStep
 enter-sound H d party mode names nameCount shape sound = by (enterRefusal H d party names nameCount) refl
   where
-    cover : ℕ
-    cover = coverIn H (take nameCount names)
+    l : Lock
+    l = lockFor H mode (take nameCount names)
 
-    by : (o : Option ℕ) → enterRefusal H d party names nameCount ≡ o → soundDesk H ((enterUnless o d party (lockOn H mode cover)) .desk) ≡ true
+    by : (o : Option ℕ) → enterRefusal H d party names nameCount ≡ o → soundDesk H ((enterUnless o d party l) .desk) ≡ true
     by (some k) e = sound
     by none e =
         let own : List Check = enterOwn H d party names nameCount in
         let f = step-facts H d party (ltb (length names) nameCount) own e in
         let out = refusal-none own (step-own H d party (ltb (length names) nameCount) own e) .0 in
-        let b : cover < H .n = cover-below H (take nameCount names) (f .sized) in
-        enter-if H d party (lockOn H mode cover) shape sound (f .party-below) (is-out (stageAt d party) (not-false (isOut (stageAt d party)) out))
-        (not-wrong H cover (f .intervals-right) b .0)
-        (rw (lt-ltb cover (H .n) b, eq-eqb (lowIn H cover) (lowIn H cover) refl, eq-eqb (highIn H cover) (highIn H cover) refl))
-        (free d (lockOn H mode cover)) refl
+        enter-if H d party l shape sound (f .party-below) (is-out (stageAt d party) (not-false (isOut (stageAt d party)) out)) (call-fit H d party mode names nameCount e) (free d l) refl
 
--- GET hands back the desk given
-pub get-sound : (H : Hierarchy) (d : Desk) (party node : ℕ) (values : List ℕ) → soundDesk H d ≡ true → soundDesk H ((getStep H d party node values) .desk) ≡ true
-get-sound H d party node values sound = rw (unchanged-get H d party node values) sound
+-- GET hands back the desk given, and so do put and add
+module _ (H : Hierarchy) (d : Desk) (party node : ℕ) where
+  pub get-sound : (values scratch : List ℕ) → soundDesk H d ≡ true → soundDesk H ((getStep H d party node values scratch) .desk) ≡ true
+  get-sound values scratch sound = rw (unchanged-get H d party node values scratch) sound
 
--- and so do put
-pub put-sound : (H : Hierarchy) (d : Desk) (party node value : ℕ) (values : List ℕ) → soundDesk H d ≡ true
-    → soundDesk H ((putStep H d party node value values) .desk) ≡ true
-put-sound H d party node value values sound = rw (unchanged-put H d party node value values) sound
+  pub put-sound : (value : ℕ) (values scratch : List ℕ) → soundDesk H d ≡ true → soundDesk H ((putStep H d party node value values scratch) .desk) ≡ true
+  put-sound value values scratch sound = rw (unchanged-put H d party node value values scratch) sound
 
--- and add
-pub add-sound : (H : Hierarchy) (d : Desk) (party node number : ℕ) (values : List ℕ) → soundDesk H d ≡ true
-    → soundDesk H ((addStep H d party node number values) .desk) ≡ true
-add-sound H d party node number values sound = rw (unchanged-add H d party node number values) sound
+  pub add-sound : (number : ℕ) (values scratch : List ℕ) → soundDesk H d ≡ true → soundDesk H ((addStep H d party node number values scratch) .desk) ≡ true
+  add-sound number values scratch sound = rw (unchanged-add H d party node number values scratch) sound
 
 -- LEAVE'S PASS: the parties that stay and those to come are the list, and those that stay are held up
 record Going (H : Hierarchy) (s : Sweep) (after : List ℕ) : Type 0 where

@@ -10,20 +10,20 @@ use Rattle.lists.specs.Answer.{refused, refusal}
 use Rattle.lists.proofs.Bools.{not-both}
 use Rattle.locks.specs.declared.Mode.{Mode}
 use Rattle.locks.specs.declared.Lock.{Lock}
-use Rattle.locks.specs.Lent.{Hierarchy, coverIn, lockOn}
+use Rattle.locks.specs.Lent.{Hierarchy, lockFor}
 use Rattle.desk.specs.declared.Desk.{Desk}
 use Rattle.desk.specs.Desks.{freshDesk}
 use Rattle.parties.specs.Sound.{soundParties}
 use Rattle.desk.specs.Sound.{soundDesk}
-use Rattle.desk.specs.Steps.{getOwn, putOwn, addOwn, free, enterRefusal, enterIf, enterUnless, enterStep, valueChecks, getUnless, getStep, putUnless, putStep, sum64, addStep}
+use Rattle.desk.specs.Steps.{getOwn, putOwn, addOwn, free, enterRefusal, enterIf, enterUnless, enterStep, valueChecks, scratchLeft, getUnless, getStep, putUnless, putStep, sum64, addStep}
 use Rattle.desk.specs.Steps.{leaveRefusal, leaveUnless, leaveStep}
 use Rattle.runs.proofs.Lends.{put-same, add-same}
 
--- A REFUSED STEP CHANGES NOTHING: the desk handed back is the one given, and so is every buffer
+-- A REFUSED STEP CHANGES NOTHING: the desk handed back is the one given, and so is every buffer but the scratch of the search (proofs/Scratch says what is in that)
 pub refused-enter : (H : Hierarchy) (d : Desk) (party : ℕ) (mode : Mode) (names : List ℕ) (nameCount k : ℕ)
     → (enterStep H d party mode names nameCount) .answer ≡ refused k → (enterStep H d party mode names nameCount) .desk ≡ d
 unfolding enterStep
-refused-enter H d party mode names nameCount k e = by (enterRefusal H d party names nameCount) (lockOn H mode (coverIn H (take nameCount names))) e
+refused-enter H d party mode names nameCount k e = by (enterRefusal H d party names nameCount) (lockFor H mode (take nameCount names)) e
   where
     admitted : (b : Bool) (l : Lock) → (enterIf b d party l) .answer ≡ refused k → (enterIf b d party l) .desk ≡ d
     admitted true l e = not-both true refl cc
@@ -33,38 +33,39 @@ refused-enter H d party mode names nameCount k e = by (enterRefusal H d party na
     by (some j) l e = refl
     by none l e = admitted (free d l) l e
 
--- get changes nothing in any case
-pub unchanged-get : (H : Hierarchy) (d : Desk) (party node : ℕ) (values : List ℕ) → (getStep H d party node values) .desk ≡ d
+-- get changes no desk in any case
+pub unchanged-get : (H : Hierarchy) (d : Desk) (party node : ℕ) (values scratch : List ℕ) → (getStep H d party node values scratch) .desk ≡ d
 unfolding getStep
-unchanged-get H d party node values = by (refusal (valueChecks H d party node values (getOwn d party))) (getD values node 0)
+unchanged-get H d party node values scratch = by (refusal (valueChecks H d party node values scratch (getOwn d party))) (getD values node 0) (scratchLeft H values scratch)
   where
-    by : (o : Option ℕ) (x : ℕ) → (getUnless o d x) .desk ≡ d
-    by (some j) x = refl
-    by none x = refl
+    by : (o : Option ℕ) (x : ℕ) (c : List ℕ) → (getUnless o d x c) .desk ≡ d
+    by (some j) x c = refl
+    by none x c = refl
 
 -- where put and add are refused, they change no value
-module _ (d : Desk) (node value : ℕ) (values : List ℕ) where
-  unless-refused : (k : ℕ) (o : Option ℕ) → (putUnless o d node value values) .answer ≡ refused k → (putUnless o d node value values) .values ≡ values
+module _ (d : Desk) (node value : ℕ) (values scratch : List ℕ) where
+  unless-refused : (k : ℕ) (o : Option ℕ) → (putUnless o d node value values scratch) .answer ≡ refused k → (putUnless o d node value values scratch) .values ≡ values
   unless-refused k (some j) e = refl
   unless-refused k none e = not-both true refl cc
 
 -- they change no desk in any case
-pub unchanged-put : (H : Hierarchy) (d : Desk) (party node value : ℕ) (values : List ℕ) → (putStep H d party node value values) .desk ≡ d
+pub unchanged-put : (H : Hierarchy) (d : Desk) (party node value : ℕ) (values scratch : List ℕ) → (putStep H d party node value values scratch) .desk ≡ d
 unchanged-put = put-same
 
-pub refused-put : (H : Hierarchy) (d : Desk) (party node value k : ℕ) (values : List ℕ) → (putStep H d party node value values) .answer ≡ refused k
-    → (putStep H d party node value values) .values ≡ values
+pub refused-put : (H : Hierarchy) (d : Desk) (party node value k : ℕ) (values scratch : List ℕ) → (putStep H d party node value values scratch) .answer ≡ refused k
+    → (putStep H d party node value values scratch) .values ≡ values
 unfolding putStep
-refused-put H d party node value k values e = unless-refused d node value values k (refusal (valueChecks H d party node values (putOwn d party))) e
+refused-put H d party node value k values scratch e =
+    unless-refused d node value values (scratchLeft H values scratch) k (refusal (valueChecks H d party node values scratch (putOwn d party))) e
 
-pub unchanged-add : (H : Hierarchy) (d : Desk) (party node number : ℕ) (values : List ℕ) → (addStep H d party node number values) .desk ≡ d
+pub unchanged-add : (H : Hierarchy) (d : Desk) (party node number : ℕ) (values scratch : List ℕ) → (addStep H d party node number values scratch) .desk ≡ d
 unchanged-add = add-same
 
-pub refused-add : (H : Hierarchy) (d : Desk) (party node number k : ℕ) (values : List ℕ) → (addStep H d party node number values) .answer ≡ refused k
-    → (addStep H d party node number values) .values ≡ values
+pub refused-add : (H : Hierarchy) (d : Desk) (party node number k : ℕ) (values scratch : List ℕ) → (addStep H d party node number values scratch) .answer ≡ refused k
+    → (addStep H d party node number values scratch) .values ≡ values
 unfolding addStep
-refused-add H d party node number k values e =
-    unless-refused d node (sum64 (getD values node 0) number) values k (refusal (valueChecks H d party node values (addOwn d party))) e
+refused-add H d party node number k values scratch e =
+    unless-refused d node (sum64 (getD values node 0) number) values (scratchLeft H values scratch) k (refusal (valueChecks H d party node values scratch (addOwn d party))) e
 
 pub refused-leave : (H : Hierarchy) (d : Desk) (party k : ℕ) (list : List ℕ) → (leaveStep H d party list) .answer ≡ refused k
     → ((leaveStep H d party list) .desk ≡ d) × ((leaveStep H d party list) .list ≡ list)

@@ -13,23 +13,23 @@ use Rattle.lists.specs.Answer.{Check, _when_, refusal}
 use Rattle.hierarchy.specs.Hierarchy.{edgesOf}
 use Rattle.intervals.specs.Intervals.{lowOf, highOf}
 use Rattle.intervals.specs.Cover.{lowAt, highAt}
-use Rattle.lists.proofs.Bools.{bool, not-both, or-left, or-right, or-neither}
+use Rattle.lists.proofs.Bools.{bool, not-both, both-ways, or-left, or-right, or-neither}
 use Rattle.lists.proofs.Refusals.{refused-here, refused-later}
-use Rattle.lists.proofs.Bounded.{none-of}
-use Rattle.lists.proofs.Distinct.{all-alike}
+use Rattle.lists.proofs.Bounded.{all-at, all-of, none-of}
 use Rattle.hierarchy.proofs.Legals.{promised}
 use Rattle.interval_laws.proofs.Laws.{built-low, built-high, interval-real, interval-inside-root, taken}
 use Rattle.locks.specs.declared.Lock.{Lock}
 use Rattle.locks.specs.declared.Stage.{Stage}
 use Rattle.locks.specs.declared.Stage.the-variants.{Out, Waiting, Holding}
 use Rattle.desk.specs.declared.Desk.{Desk}
-use Rattle.locks.specs.Lent.{Hierarchy, lowIn, highIn, coverIn, coverRight, tablesShort, intervalWrong, lockOn}
+use Rattle.locks.specs.Lent.{Hierarchy, lowIn, highIn, coverRight, keepsNames, insideLock, coversNames, tablesShort, intervalWrong, lockFor}
+use Rattle.naming.specs.Names.{namesOf}
 use Rattle.locks.specs.Stages.{ofLock}
-use Rattle.parties.specs.Sound.{listsParties, listsOnce, listsWaiting, intervalsReal, holdersApart, waitersHeldUp, soundParties}
+use Rattle.parties.proofs.Clauses.{Fits, clauses, from-clauses}
 use Rattle.desk.specs.Desks.{freshDesk, stageAt}
 use Rattle.desk.specs.Sound.{soundDesk}
 use Rattle.desk.specs.Steps.{getOwn, putOwn, addOwn, leaveOwn, enterOwn, stepChecks, enterRefusal, free, enterIf, enterUnless, enterStep}
-use Rattle.desk.specs.Steps.{nodeChecks, valueChecks, getUnless, getStep, putUnless, putStep, sum64, addStep, leaveRefusal, leaveUnless, leaveStep}
+use Rattle.desk.specs.Steps.{nodeChecks, valuesShort, valueChecks, scratchLeft, getUnless, getStep, putUnless, putStep, sum64, addStep, leaveRefusal, leaveUnless, leaveStep}
 use Rattle.runs.specs.Run.{lend, Call, enter, get, put, add, leave, Step, lentTo, State, start, Moved}
 use Rattle.runs.specs.Run.{afterEnter, afterGet, afterPut, afterAdd, listed, afterLeave, moveCall, move, Ran, alsoRan, run}
 use Rattle.runs.specs.Over.{startOver, runOver}
@@ -37,10 +37,12 @@ use Rattle.runs.proofs.Lends.{low-lent, high-lent}
 use Rattle.runs.proofs.Runs.{run-hierarchy, run-over}
 use Rattle.history.specs.Serial.{Built}
 use Rattle.history.specs.Results.{Made, AllMeet, toldByAll, lastDesk}
-use Rattle.history.proofs.Serializable.{built-two-each}
+use Rattle.history.proofs.Nested.{built-nested, every-in, name-below}
+use Rattle.soundness.proofs.Named.{every-of}
 use Rattle.history.proofs.Results.{stepsFor, results-run}
 use Rattle.soundness.specs.Refused.{isRefusal, refusedWith}
 use Rattle.soundness.proofs.Laws.{unchanged-get, unchanged-put, unchanged-add, fresh-sound}
+use Rattle.soundness.proofs.Numbers.{isNumber, holdsWith, not-refused}
 use Rattle.soundness.proofs.Orderly.{Shaped}
 use Rattle.soundness.proofs.Kept.{fresh-shaped, enter-shaped, get-shaped, put-shaped, add-shaped, leave-shaped, enter-sound, leave-sound}
 
@@ -66,22 +68,58 @@ module _ (K H : Hierarchy) (a : Agree K H) where
       (λ e. let h = ltb-true (l .cover) (H .n) e in rw (a .low (l .cover) h, a .high (l .cover) h))
       (λ e. rw e))
 
-  stage-agrees : (x : Stage) → ofLock (coverRight K) x ≡ ofLock (coverRight H) x
-  stage-agrees Out = refl
-  stage-agrees (Waiting l) = cover-agrees l
-  stage-agrees (Holding l) = cover-agrees l
+  -- so is what is asked of its names,
+  names-agree : (l : Lock) → keepsNames K l ≡ keepsNames H l
+  names-agree l = rw (a .size)
 
-  -- a desk is sound over both or over neither
-  sound-agrees : (d : Desk) → soundDesk K d ≡ soundDesk H d
-  unfolding soundParties
-  sound-agrees d =
-      ap (λ (b : Bool). listsParties (d .queue) (d .waiting) && listsOnce (d .queue) (d .waiting) && listsWaiting (d .entries) (d .queue) (d .waiting)
-      && intervalsReal (d .entries) && b && holdersApart (d .entries) && waitersHeldUp (d .entries) (d .queue) (d .waiting))
-      (all-alike (λ party. ofLock (coverRight K) (stageAt d party)) (λ party. ofLock (coverRight H) (stageAt d party)) 32 (λ party. stage-agrees (stageAt d party)))
+  -- and of the cover around them, where they are nodes
+  covered-agrees : (l : Lock) → keepsNames K l ≡ true → coversNames K l ≡ true → coversNames H l ≡ true
+  covered-agrees l r c =
+      every-of (λ name. insideLock H name l) (namesOf (l .names)) (λ name i.
+      let h : name < H .n = name-below H l (sym (names-agree l) ∙ r) name i in
+      rw (a .low name h, a .high name h) at (every-in (λ name. insideLock K name l) c i))
+
+  stage-fits : (x : Stage) → Fits K x → Fits H x
+  stage-fits Out f = record { cover = refl; names = refl; covered = refl }
+  stage-fits (Waiting l) f = record { cover = sym (cover-agrees l) ∙ f .cover; names = sym (names-agree l) ∙ f .names; covered = covered-agrees l (f .names) (f .covered) }
+  stage-fits (Holding l) f = record { cover = sym (cover-agrees l) ∙ f .cover; names = sym (names-agree l) ∙ f .names; covered = covered-agrees l (f .names) (f .covered) }
+
+  -- a desk that is sound over the one is sound over the other
+  sound-over : (d : Desk) → soundDesk K d ≡ true → soundDesk H d ≡ true
+  sound-over d s =
+      let c = clauses K (d .entries) (d .queue) (d .waiting) s in
+      let fits : (p : ℕ) → p < 32 → Fits H (stageAt d p) = λ p h. stage-fits (stageAt d p) (record {
+        cover = all-at (λ party. ofLock (coverRight K) (stageAt d party)) 32 p (c .covers) h;
+        names = all-at (λ party. ofLock (keepsNames K) (stageAt d party)) 32 p (c .names) h;
+        covered = all-at (λ party. ofLock (coversNames K) (stageAt d party)) 32 p (c .covered) h;
+      }) in
+      from-clauses H (d .entries) (d .queue) (d .waiting) (record {
+        parties = c .parties;
+        once = c .once;
+        listed = c .listed;
+        real = c .real;
+        covers = all-of (λ party. ofLock (coverRight H) (stageAt d party)) 32 (λ p h. fits p h .cover);
+        names = all-of (λ party. ofLock (keepsNames H) (stageAt d party)) 32 (λ p h. fits p h .names);
+        covered = all-of (λ party. ofLock (coversNames H) (stageAt d party)) 32 (λ p h. fits p h .covered);
+        apart = c .apart;
+        held = c .held;
+      })
 
   -- an interval is wrong in both or in neither
   wrong-agrees : (node : ℕ) → node < H .n → intervalWrong K node ≡ intervalWrong H node
   wrong-agrees node h = rw (a .low node h, a .high node h, a .low 0 (omega arith), a .high 0 (omega arith))
+
+-- they agree the other way round
+turned : (K H : Hierarchy) → Agree K H → Agree H K
+turned K H a = record {
+  size = sym (a .size);
+  low = λ node h. sym (a .low node (omega (arith, a .size)));
+  high = λ node h. sym (a .high node (omega (arith, a .size)));
+}
+
+-- a desk is sound over both or over neither
+sound-agrees : (K H : Hierarchy) → Agree K H → (d : Desk) → soundDesk K d ≡ soundDesk H d
+sound-agrees K H a d = both-ways (soundDesk K d) (soundDesk H d) (sound-over K H a d) (sound-over H K (turned K H a) d)
 
 -- A BUILT HIERARCHY has no wrong interval
 built-right : (H : Hierarchy) → Built H → (node : ℕ) → node < H .n → intervalWrong H node ≡ false
@@ -102,25 +140,7 @@ built-right H b node h =
       le-ltb (highIn H 0) (highIn H node) (omega (arith, high node h, high 0 root, inside)),
     )
 
--- REFUSALS: whether one is k
-abbrev isNumber : ℕ → Option ℕ → Bool
-isNumber k none = false
-isNumber k (some j) = eqb j k
-
--- a check numbered k holds; of a list that has none so numbered this is false by computation, however long the list is
-abbrev holdsWith : ℕ → List Check → Bool
-holdsWith k cs = any (λ c. eqb (c .number) k && c .holds) cs
-
--- where none does the refusal is not k
-not-refused : (k : ℕ) (cs : List Check) → holdsWith k cs ≡ false → isNumber k (refusal cs) ≡ false
-unfolding refusal any
-not-refused k [] f = refl
-not-refused k (c ∷ cs) f =
-    bool (c .holds)
-    (λ e. rw (refused-here c cs e) (sym (and-true (eqb (c .number) k)) ∙ rw e at (or-left (eqb (c .number) k && c .holds) _ f)))
-    (λ e. rw (refused-later c cs e) (not-refused k cs (or-right (eqb (c .number) k && c .holds) _ f)))
-
--- a step with tables that are too short is refused with 1
+-- REFUSALS. A step with tables that are too short is refused with 1
 short-first : (K : Hierarchy) (d : Desk) (party : ℕ) (short : Bool) (own : List Check) → tablesShort K ≡ true → refusal (stepChecks K d party short own) ≡ some 1
 short-first K d party short own e = refused-here (1 when (tablesShort K || short)) _ (ap (λ (b : Bool). b || short) e)
 
@@ -142,13 +162,13 @@ module _ (d : Desk) (k : ℕ) where
       test true = refl
       test false = refl
 
-  get-number : (value : ℕ) (o : Option ℕ) → isRefusal k ((getUnless o d value) .answer) ≡ isNumber k o
-  get-number value (some j) = refl
-  get-number value none = refl
+  get-number : (value : ℕ) (scratch : List ℕ) (o : Option ℕ) → isRefusal k ((getUnless o d value scratch) .answer) ≡ isNumber k o
+  get-number value scratch (some j) = refl
+  get-number value scratch none = refl
 
-  put-number : (node value : ℕ) (values : List ℕ) (o : Option ℕ) → isRefusal k ((putUnless o d node value values) .answer) ≡ isNumber k o
-  put-number node value values (some j) = refl
-  put-number node value values none = refl
+  put-number : (node value : ℕ) (values scratch : List ℕ) (o : Option ℕ) → isRefusal k ((putUnless o d node value values scratch) .answer) ≡ isNumber k o
+  put-number node value values scratch (some j) = refl
+  put-number node value values scratch none = refl
 
   leave-number : (party : ℕ) (list bytes : List ℕ) (o : Option ℕ) → isRefusal k (listed bytes ((leaveUnless o d party list) .answer)) ≡ isNumber k o
   unfolding listed
@@ -179,7 +199,7 @@ module _ (x : Step) (s : State) (f : Fine s) where
 
   -- the step sees the built intervals
   agree : tablesShort K ≡ false → Agree K H
-  agree = lent-agrees H x (built-two-each H (f .built))
+  agree = lent-agrees H x (built-nested H (f .built) .two-each)
 
   -- 10 does not hold
   not-ten : (party : ℕ) (short : Bool) (own : List Check) → holdsWith 10 own ≡ false → isNumber 10 (refusal (stepChecks K d party short own)) ≡ false
@@ -196,9 +216,9 @@ module _ (x : Step) (s : State) (f : Fine s) where
           (ap not (sound-agrees K H (agree e) d ∙ f .sound))
 
   -- get, put and add alike
-  value-not-ten : (party node : ℕ) (values : List ℕ) (own : List Check) → holdsWith 10 own ≡ false → isNumber 10 (refusal (valueChecks K d party node values own)) ≡ false
+  value-not-ten : (party node : ℕ) (values scratch : List ℕ) (own : List Check) → holdsWith 10 own ≡ false → isNumber 10 (refusal (valueChecks K d party node values scratch own)) ≡ false
   unfolding any
-  value-not-ten party node values own o = not-ten party (ltb (length values) (K .n)) (nodeChecks K d party node own) o
+  value-not-ten party node values scratch own o = not-ten party (valuesShort K values scratch) (nodeChecks K d party node own) o
 
   -- the desk handed back is sound, since the step saw the built intervals or was refused with 1
   kept : (new : Desk) → (tablesShort K ≡ true → new ≡ d) → (soundDesk K d ≡ true → soundDesk K new ≡ true) → soundDesk H new ≡ true
@@ -211,7 +231,7 @@ module _ (x : Step) (s : State) (f : Fine s) where
   call-stepped : (c : Call) → Stepped (moveCall K c s)
   unfolding moveCall afterEnter afterGet afterPut afterAdd afterLeave enterStep getStep putStep addStep leaveStep any
   call-stepped (enter party mode names nameCount) =
-      let l : Lock = lockOn K mode (coverIn K (take nameCount names)) in
+      let l : Lock = lockFor K mode (take nameCount names) in
       let own : List Check = enterOwn K d party names nameCount in
       record {
         fine = record {
@@ -221,26 +241,27 @@ module _ (x : Step) (s : State) (f : Fine s) where
         };
         event = enter-number d 10 party l (enterRefusal K d party names nameCount) ∙ not-ten party (ltb (length names) nameCount) own refl;
       }
-  call-stepped (get party node l) =
+  call-stepped (get party node l c) =
       let values : List ℕ = lend (s .values) l in
       let own : List Check = getOwn d party in
       record {
-        fine = record { built = f .built; shaped = get-shaped K d party node values (f .shaped); sound = rw (unchanged-get K d party node values) (f .sound) };
-        event = get-number d 10 (getD values node 0) (refusal (valueChecks K d party node values own)) ∙ value-not-ten party node values own refl;
+        fine = record { built = f .built; shaped = get-shaped K d party node values c (f .shaped); sound = rw (unchanged-get K d party node values c) (f .sound) };
+        event = get-number d 10 (getD values node 0) (scratchLeft K values c) (refusal (valueChecks K d party node values c own)) ∙ value-not-ten party node values c own refl;
       }
-  call-stepped (put party node value l) =
+  call-stepped (put party node value l c) =
       let values : List ℕ = lend (s .values) l in
       let own : List Check = putOwn d party in
       record {
-        fine = record { built = f .built; shaped = put-shaped K d party node value values (f .shaped); sound = rw (unchanged-put K d party node value values) (f .sound) };
-        event = put-number d 10 node value values (refusal (valueChecks K d party node values own)) ∙ value-not-ten party node values own refl;
+        fine = record { built = f .built; shaped = put-shaped K d party node value values c (f .shaped); sound = rw (unchanged-put K d party node value values c) (f .sound) };
+        event = put-number d 10 node value values (scratchLeft K values c) (refusal (valueChecks K d party node values c own)) ∙ value-not-ten party node values c own refl;
       }
-  call-stepped (add party node number l) =
+  call-stepped (add party node number l c) =
       let values : List ℕ = lend (s .values) l in
       let own : List Check = addOwn d party in
       record {
-        fine = record { built = f .built; shaped = add-shaped K d party node number values (f .shaped); sound = rw (unchanged-add K d party node number values) (f .sound) };
-        event = put-number d 10 node (sum64 (getD values node 0) number) values (refusal (valueChecks K d party node values own)) ∙ value-not-ten party node values own refl;
+        fine = record { built = f .built; shaped = add-shaped K d party node number values c (f .shaped); sound = rw (unchanged-add K d party node number values c) (f .sound) };
+        event = put-number d 10 node (sum64 (getD values node 0) number) values (scratchLeft K values c) (refusal (valueChecks K d party node values c own))
+            ∙ value-not-ten party node values c own refl;
       }
   call-stepped (leave party list) =
       let own : List Check = leaveOwn d party in

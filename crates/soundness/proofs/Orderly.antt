@@ -19,12 +19,12 @@ use Rattle.locks.specs.declared.Stage.{Stage}
 use Rattle.locks.specs.declared.Stage.the-variants.{Out, Waiting, Holding}
 use Rattle.locks.specs.Locks.{conflict, realInterval}
 use Rattle.locks.specs.Stages.{isWaiting, ofLock, holdersConflict}
-use Rattle.locks.specs.Lent.{Hierarchy, coverRight}
+use Rattle.locks.specs.Lent.{Hierarchy, coverRight, keepsNames, coversNames}
 use Rattle.parties.specs.declared.Entry.{Entry}
 use Rattle.parties.specs.Parties.{stageIn}
 use Rattle.arrivals.specs.Arrivals.{queuePlaces}
 use Rattle.parties.specs.Sound.{isListed, heldUp}
-use Rattle.parties.proofs.Clauses.{Clauses, clauses, from-clauses}
+use Rattle.parties.proofs.Clauses.{Fits, Clauses, clauses, from-clauses}
 use Rattle.desk.specs.declared.Desk.{Desk}
 use Rattle.desk.specs.Desks.{stageAt, listedAt, queueOf}
 use Rattle.desk.specs.Sound.{soundDesk}
@@ -50,7 +50,7 @@ pub record Orderly (H : Hierarchy) (es : List Entry) (list : List ℕ) : Type 0 
   pub waits : (p : ℕ) → In p list → isWaiting (stageIn es p) ≡ true
   pub listed : (p : ℕ) → p < 32 → isWaiting (stageIn es p) ≡ true → In p list
   pub real : (p : ℕ) → p < 32 → ofLock (λ l. realInterval (l .low) (l .high)) (stageIn es p) ≡ true
-  pub covers : (p : ℕ) → p < 32 → ofLock (coverRight H) (stageIn es p) ≡ true
+  pub fits : (p : ℕ) → p < 32 → Fits H (stageIn es p)
   pub apart : (p q : ℕ) (g h : Lock) → p ≢ q → stageIn es p ≡ Holding g → stageIn es q ≡ Holding h → conflict h g ≡ false
 
 -- the last clause
@@ -107,7 +107,11 @@ module _ (H : Hierarchy) (d : Desk) (list : List ℕ) (r : Reads d list) where
     waits = member (λ p. isWaiting (stageAt d p)) waiting;
     listed = λ p h w. found p (rw w at (all-at (λ party. not (isWaiting (stageAt d party)) || isListed (d .queue) (d .waiting) party) 32 p known h));
     real = λ p h. all-at (λ party. ofLock (λ l. realInterval (l .low) (l .high)) (stageAt d party)) 32 p (c .real) h;
-    covers = λ p h. all-at (λ party. ofLock (coverRight H) (stageAt d party)) 32 p (c .covers) h;
+    fits = λ p h. record {
+      cover = all-at (λ party. ofLock (coverRight H) (stageAt d party)) 32 p (c .covers) h;
+      names = all-at (λ party. ofLock (keepsNames H) (stageAt d party)) 32 p (c .names) h;
+      covered = all-at (λ party. ofLock (coversNames H) (stageAt d party)) 32 p (c .covered) h;
+    };
     apart = λ p q g h ne eg eh. holders-apart H d s p q g h (omega (arith, holder-below (d .entries) p g eg)) (omega (arith, holder-below (d .entries) q h eh)) ne eg eh;
   }
     where
@@ -154,7 +158,9 @@ module _ (H : Hierarchy) (d : Desk) (list : List ℕ) (r : Reads d list) where
         (all-of (λ party. not (isWaiting (stageAt d party)) || isListed (d .queue) (d .waiting) party) 32
         (λ p h. bool (isWaiting (stageAt d p)) (λ w. rw w (on-list p (o .listed p h w))) (λ w. rw w)));
     real = all-of (λ party. ofLock (λ l. realInterval (l .low) (l .high)) (stageAt d party)) 32 (o .real);
-    covers = all-of (λ party. ofLock (coverRight H) (stageAt d party)) 32 (o .covers);
+    covers = all-of (λ party. ofLock (coverRight H) (stageAt d party)) 32 (λ p h. o .fits p h .cover);
+    names = all-of (λ party. ofLock (keepsNames H) (stageAt d party)) 32 (λ p h. o .fits p h .names);
+    covered = all-of (λ party. ofLock (coversNames H) (stageAt d party)) 32 (λ p h. o .fits p h .covered);
     apart = all-of (λ party. allBelow party (λ other. not (holdersConflict (stageAt d party) (stageAt d other)))) 32 (λ p h.
         all-of (λ other. not (holdersConflict (stageAt d p) (stageAt d other))) p (λ q k. free p q k (stageAt d p) (stageAt d q) refl refl));
     held = there (λ i p. heldUp (d .entries) (take i (d .queue)) (stageAt d p)) (λ i h. rw (r .front i h) (u i h));

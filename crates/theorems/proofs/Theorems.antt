@@ -2,7 +2,7 @@
 -- more or a clause less there it would no longer fit. Some of points 4 and 5 no crate below states: they follow here, in a few lines, from laws and definitions below.
 -- What the terms mean is in the definitions, crates/*/specs; what each function does is its contract, in crates/*/src, where demand 1 is carried: no public
 -- function has a `requires`, and each result is equated with a definition. Assumes nothing.
-use mathlib.Core.Path.{_≡_, refl, sym, ap, _∙_}
+use mathlib.Core.Path.{_≡_, refl, sym, ap, subst, _∙_}
 use mathlib.Core.Logic.{_⊎_, inl, inr}
 use mathlib.Core.List.{List, [], _∷_, _++_, map}
 use mathlib.Core.Bool.{Bool, true, false, cond, and-false}
@@ -13,7 +13,7 @@ use lib.Dec.{eqb, ltb}
 use borrow.Author.Tests.{lt-ltb, le-leb, ne-eqb, not-false}
 use lib.ListN.{length, getD, set, take, replicate}
 use Rattle.lists.specs.Lists.{every, any, count, sum, over, Below}
-use Rattle.lists.specs.Answer.{done, refused}
+use Rattle.lists.specs.Answer.{done, refused, refusal}
 use Rattle.hierarchy.specs.Hierarchy.{edgesOf, Edge, Reach, reach, Legal}
 use Rattle.intervals.specs.Numbering.{numbering}
 use Rattle.intervals.specs.Intervals.{lowOf, highOf, intervalTable}
@@ -26,12 +26,14 @@ use Rattle.locks.specs.declared.Mode.the-variants.{Reading, Writing, Adding}
 use Rattle.locks.specs.declared.Lock.{Lock}
 use Rattle.locks.specs.Locks.{compatible, share, conflict}
 use Rattle.locks.specs.declared.Stage.the-variants.{Waiting, Holding}
-use Rattle.locks.specs.Lent.{Hierarchy, lent, lowIn, highIn, coverIn, tablesShort, lockOn}
+use Rattle.naming.specs.declared.Names.{Names}
+use Rattle.naming.specs.Names.{rises, ascending, namesOf, namesRight, named}
+use Rattle.locks.specs.Lent.{Hierarchy, lent, lowIn, highIn, coverIn, tablesShort, lockFor, insideLock}
 use Rattle.grants.specs.Grants.{noGrants, countGrants}
 use Rattle.desk.specs.declared.Desk.{Desk}
 use Rattle.desk.specs.Desks.{freshDesk, stageAt}
 use Rattle.desk.specs.Sound.{soundDesk}
-use Rattle.desk.specs.Steps.{granted, enterRefusal, enterStep, getStep, putStep, addStep, leaveStep}
+use Rattle.desk.specs.Steps.{granted, enterRefusal, enterStep, stepChecks, valuesShort, getStep, putStep, addStep, leaveStep}
 use Rattle.runs.specs.Run.{Step, Event, State, start, Ran, run}
 use Rattle.runs.specs.Over.{startOver, runOver}
 use Rattle.history.specs.History.{history, grantedIn, bareEvent, opsIn, countedFrom, serialFinds, serialLeaves}
@@ -39,6 +41,7 @@ use Rattle.history.specs.Serial.{Built, SerialSteps}
 use Rattle.desk.specs.Answers.{Enters, Gets, Puts, Adds, Leaves}
 use Rattle.history.specs.Results.{Result, enter, get, put, add, leave, Made, Meets, deskFrom, valuesFrom, AllMeet, toldByAll, lastDesk, lastValues}
 use Rattle.soundness.specs.Refused.{refusedWith}
+use Rattle.soundness.specs.Given.{givenIn, Keeps}
 use Rattle.file_laws.specs.Files.{eventsOf}
 use Rattle.replay.specs.Replay.{waits, stored, left, FileRun, granted as admitted, refused as denied, recordList, stepRecords, sizeOf, edgeTable, edgeCountOf, answersOf}
 use Rattle.replay.specs.Replay.{performAll, runFile}
@@ -63,12 +66,17 @@ use Rattle.history.proofs.Serializable as serial
 use Rattle.history.proofs.Results as results
 use Rattle.history.proofs.Grants as counted
 use Rattle.history.proofs.Modes as modes
+use Rattle.history.proofs.Nested as nested
 use Rattle.grants.proofs.Counts as sum-laws
 use Rattle.file_laws.proofs.Laws as files
 use Rattle.soundness.proofs.Laws as unchanged
 use Rattle.soundness.proofs.Kept as kept
 use Rattle.soundness.proofs.NeverTen as never
 use Rattle.soundness.proofs.Covers as entered
+use Rattle.soundness.proofs.Named as given-names
+use Rattle.soundness.proofs.Given as given
+use Rattle.soundness.proofs.Seen as seen
+use Rattle.soundness.proofs.Scratch as used
 use Rattle.opening.specs.declared.OpenAnswer.the-variants.{Opened}
 use Rattle.opening.specs.Opening.{openFile}
 use Rattle.texts.specs.Lines.{stepLines, endLine, partyLine, partyLines, listing as listingOf}
@@ -84,31 +92,31 @@ use Rattle.needless_laws.proofs.Meets as meets
 use Rattle.needless_laws.proofs.Needless as none-needless
 use Rattle.examples.proofs.Starred as computed
 
--- DEMAND 1, as far as it is not a contract: a refusal changes nothing. Of enter, the desk
+-- DEMAND 1, as far as it is not a contract: a refusal changes nothing (but the scratch of a search: point 6 below). Of enter, the desk
 refused-enter : (H : Hierarchy) (d : Desk) (party : ℕ) (mode : Mode) (names : List ℕ) (nameCount k : ℕ)
     → (enterStep H d party mode names nameCount) .answer ≡ refused k → (enterStep H d party mode names nameCount) .desk ≡ d
 refused-enter = unchanged.refused-enter
 
 -- get changes no desk, refused or not; it is lent the values to read only
-unchanged-get : (H : Hierarchy) (d : Desk) (party node : ℕ) (values : List ℕ) → (getStep H d party node values) .desk ≡ d
+unchanged-get : (H : Hierarchy) (d : Desk) (party node : ℕ) (values scratch : List ℕ) → (getStep H d party node values scratch) .desk ≡ d
 unchanged-get = unchanged.unchanged-get
 
 -- nor does put,
-unchanged-put : (H : Hierarchy) (d : Desk) (party node value : ℕ) (values : List ℕ) → (putStep H d party node value values) .desk ≡ d
+unchanged-put : (H : Hierarchy) (d : Desk) (party node value : ℕ) (values scratch : List ℕ) → (putStep H d party node value values scratch) .desk ≡ d
 unchanged-put = unchanged.unchanged-put
 
 -- and refused it leaves the values
-refused-put : (H : Hierarchy) (d : Desk) (party node value k : ℕ) (values : List ℕ) → (putStep H d party node value values) .answer ≡ refused k
-    → (putStep H d party node value values) .values ≡ values
+refused-put : (H : Hierarchy) (d : Desk) (party node value k : ℕ) (values scratch : List ℕ) → (putStep H d party node value values scratch) .answer ≡ refused k
+    → (putStep H d party node value values scratch) .values ≡ values
 refused-put = unchanged.refused-put
 
 -- nor does add,
-unchanged-add : (H : Hierarchy) (d : Desk) (party node number : ℕ) (values : List ℕ) → (addStep H d party node number values) .desk ≡ d
+unchanged-add : (H : Hierarchy) (d : Desk) (party node number : ℕ) (values scratch : List ℕ) → (addStep H d party node number values scratch) .desk ≡ d
 unchanged-add = unchanged.unchanged-add
 
 -- and refused it leaves the values
-refused-add : (H : Hierarchy) (d : Desk) (party node number k : ℕ) (values : List ℕ) → (addStep H d party node number values) .answer ≡ refused k
-    → (addStep H d party node number values) .values ≡ values
+refused-add : (H : Hierarchy) (d : Desk) (party node number k : ℕ) (values scratch : List ℕ) → (addStep H d party node number values scratch) .answer ≡ refused k
+    → (addStep H d party node number values scratch) .values ≡ values
 refused-add = unchanged.refused-add
 
 -- of leave, the desk and the lent list
@@ -236,12 +244,12 @@ enter-cover H d party mode names nameCount fine =
 -- which has the node's own interval where the call names one node, however often;
 enter-one : (H : Hierarchy) (d : Desk) (party : ℕ) (mode : Mode) (names : List ℕ) (nameCount : ℕ) → enterRefusal H d party names nameCount ≡ none
     → (x : ℕ) → ((r : ℕ) → In r (take nameCount names) → r ≡ x)
-    → let lock = lockOn H mode (coverIn H (take nameCount names)) in (lock .low ≡ lowIn H x) × (lock .high ≡ highIn H x)
+    → let lock = lockFor H mode (take nameCount names) in (lock .low ≡ lowIn H x) × (lock .high ≡ highIn H x)
 enter-one = entered.enter-one
 
 -- its party then holds or waits for that lock
 enter-stage : (H : Hierarchy) (d : Desk) (party : ℕ) (mode : Mode) (names : List ℕ) (nameCount : ℕ) → enterRefusal H d party names nameCount ≡ none → length (d .entries) ≡ 32
-    → let lock = lockOn H mode (coverIn H (take nameCount names)) in
+    → let lock = lockFor H mode (take nameCount names) in
     let stage = stageAt ((enterStep H d party mode names nameCount) .desk) party in (stage ≡ Holding lock) ⊎ (stage ≡ Waiting lock)
 enter-stage = entered.enter-stage
 
@@ -338,9 +346,9 @@ Lent table buffer = (length buffer < length table) ⊎ (take (length table) buff
 -- the result of a call meets the contract of its method, on a hierarchy as lent, a desk, and values of which get, put and add are lent
 abbrev Contract : Hierarchy → Desk → List ℕ → Result → Type 0
 Contract K d values (enter party mode names nameCount r) = Enters r (enterStep K d party mode names nameCount)
-Contract K d values (get party node buffer r) = Lent values buffer × Gets r (getStep K d party node buffer)
-Contract K d values (put party node value buffer r after) = Lent values buffer × Puts r after (putStep K d party node value buffer)
-Contract K d values (add party node number buffer r after) = Lent values buffer × Adds r after (addStep K d party node number buffer)
+Contract K d values (get party node buffer scratch r used) = Lent values buffer × Gets r used (getStep K d party node buffer scratch)
+Contract K d values (put party node value buffer scratch r after used) = Lent values buffer × Puts r after used (putStep K d party node value buffer scratch)
+Contract K d values (add party node number buffer scratch r after used) = Lent values buffer × Adds r after used (addStep K d party node number buffer scratch)
 Contract K d values (leave party list r after) = Leaves r after (leaveStep K d party list)
 
 -- each does, on the desk that the one before handed back and the values as last left, over one hierarchy
@@ -354,9 +362,9 @@ Contracts H d values (m ∷ ms) =
 -- one from the other
 met : (K : Hierarchy) (d : Desk) (values : List ℕ) (r : Result) → Contract K d values r → Meets K d values r
 met K d values (enter party mode names nameCount r) c = c
-met K d values (get party node buffer r) c = c
-met K d values (put party node value buffer r after) c = c
-met K d values (add party node number buffer r after) c = c
+met K d values (get party node buffer scratch r used) c = c
+met K d values (put party node value buffer scratch r after used) c = c
+met K d values (add party node number buffer scratch r after used) c = c
 met K d values (leave party list r after) c = c
 
 all-met : (H : Hierarchy) (d : Desk) (values : List ℕ) (made : List Made) → Contracts H d values made → AllMeet H d values made
@@ -368,9 +376,9 @@ all-met H d values (m ∷ ms) c =
 -- and back
 met-back : (K : Hierarchy) (d : Desk) (values : List ℕ) (r : Result) → Meets K d values r → Contract K d values r
 met-back K d values (enter party mode names nameCount r) c = c
-met-back K d values (get party node buffer r) c = c
-met-back K d values (put party node value buffer r after) c = c
-met-back K d values (add party node number buffer r after) c = c
+met-back K d values (get party node buffer scratch r used) c = c
+met-back K d values (put party node value buffer scratch r after used) c = c
+met-back K d values (add party node number buffer scratch r after used) c = c
 met-back K d values (leave party list r after) c = c
 
 all-back : (H : Hierarchy) (d : Desk) (values : List ℕ) (made : List Made) → AllMeet H d values made → Contracts H d values made
@@ -395,15 +403,25 @@ results-demand-3 : (H : Hierarchy) (places scratch : List ℕ) → BuiltIn H pla
 results-demand-3 H places scratch b made c =
     let zeros : List ℕ = replicate (H .n) 0 in claims (results.results-demand-3 H (built-in H places scratch b) made (all-met H freshDesk zeros made c))
 
--- a put that is lent too little is refused, and leaves what it was lent as it was, so that the values stay too (`leftIn`, history/specs/Results)
-short-put : (K : Hierarchy) (d : Desk) (party node value : ℕ) (buffer : List ℕ) → length buffer < K .n
-    → putStep K d party node value buffer ≡ record { desk = d; values = buffer; answer = refused 1 }
-short-put K d party node value buffer h = results.short-put K d party node value buffer (results.or-second (tablesShort K) (ltb (length buffer) (K .n)) (lt-ltb (length buffer) (K .n) h))
+-- a get, put or add that is lent too little, of the values or of scratch, is refused with 1, and leaves what it was lent as it was, so that the values stay too (`leftIn`, history/specs/Results)
+lent-few : (K : Hierarchy) (buffer scratch : List ℕ) → (length buffer < K .n) ⊎ (length scratch < 256) → valuesShort K buffer scratch ≡ true
+lent-few K buffer scratch (inl h) = rw (lt-ltb (length buffer) (K .n) h) refl
+lent-few K buffer scratch (inr h) = results.or-second (ltb (length buffer) (K .n)) (ltb (length scratch) 256) (lt-ltb (length scratch) 256 h)
 
--- and so is an add
-short-add : (K : Hierarchy) (d : Desk) (party node number : ℕ) (buffer : List ℕ) → length buffer < K .n
-    → addStep K d party node number buffer ≡ record { desk = d; values = buffer; answer = refused 1 }
-short-add K d party node number buffer h = results.short-add K d party node number buffer (results.or-second (tablesShort K) (ltb (length buffer) (K .n)) (lt-ltb (length buffer) (K .n) h))
+short-get : (K : Hierarchy) (d : Desk) (party node : ℕ) (buffer scratch : List ℕ) → (length buffer < K .n) ⊎ (length scratch < 256)
+    → getStep K d party node buffer scratch ≡ record { desk = d; scratch = scratch; answer = refused 1 }
+short-get K d party node buffer scratch h =
+    results.short-get K d party node buffer scratch (results.or-second (tablesShort K) (valuesShort K buffer scratch) (lent-few K buffer scratch h))
+
+short-put : (K : Hierarchy) (d : Desk) (party node value : ℕ) (buffer scratch : List ℕ) → (length buffer < K .n) ⊎ (length scratch < 256)
+    → putStep K d party node value buffer scratch ≡ record { desk = d; values = buffer; scratch = scratch; answer = refused 1 }
+short-put K d party node value buffer scratch h =
+    results.short-put K d party node value buffer scratch (results.or-second (tablesShort K) (valuesShort K buffer scratch) (lent-few K buffer scratch h))
+
+short-add : (K : Hierarchy) (d : Desk) (party node number : ℕ) (buffer scratch : List ℕ) → (length buffer < K .n) ⊎ (length scratch < 256)
+    → addStep K d party node number buffer scratch ≡ record { desk = d; values = buffer; scratch = scratch; answer = refused 1 }
+short-add K d party node number buffer scratch h =
+    results.short-add K d party node number buffer scratch (results.or-second (tablesShort K) (valuesShort K buffer scratch) (lent-few K buffer scratch h))
 
 -- there are such lists: each run is what some list of calls gives whose results meet the contracts
 run-made : (H : Hierarchy) (values : List ℕ) → length values ≡ H .n → (steps : List Step) → let ran = run steps (start H values) in
@@ -432,17 +450,17 @@ enter-sound : (H : Hierarchy) (d : Desk) (party : ℕ) (mode : Mode) (names : Li
 enter-sound H d party mode names nameCount e q = kept.enter-sound H d party mode names nameCount (record { entries = e; queue = q })
 
 -- get,
-get-sound : (H : Hierarchy) (d : Desk) (party node : ℕ) (values : List ℕ) → soundDesk H d ≡ true → soundDesk H ((getStep H d party node values) .desk) ≡ true
+get-sound : (H : Hierarchy) (d : Desk) (party node : ℕ) (values scratch : List ℕ) → soundDesk H d ≡ true → soundDesk H ((getStep H d party node values scratch) .desk) ≡ true
 get-sound = kept.get-sound
 
 -- put,
-put-sound : (H : Hierarchy) (d : Desk) (party node value : ℕ) (values : List ℕ) → soundDesk H d ≡ true
-    → soundDesk H ((putStep H d party node value values) .desk) ≡ true
+put-sound : (H : Hierarchy) (d : Desk) (party node value : ℕ) (values scratch : List ℕ) → soundDesk H d ≡ true
+    → soundDesk H ((putStep H d party node value values scratch) .desk) ≡ true
 put-sound = kept.put-sound
 
 -- add
-add-sound : (H : Hierarchy) (d : Desk) (party node number : ℕ) (values : List ℕ) → soundDesk H d ≡ true
-    → soundDesk H ((addStep H d party node number values) .desk) ≡ true
+add-sound : (H : Hierarchy) (d : Desk) (party node number : ℕ) (values scratch : List ℕ) → soundDesk H d ≡ true
+    → soundDesk H ((addStep H d party node number values scratch) .desk) ≡ true
 add-sound = kept.add-sound
 
 -- and leave
@@ -607,33 +625,157 @@ abbrev HoldsIn : Desk → ℕ → (Mode → Type 0) → Type 0
 HoldsIn d party P = (l : Lock) × (stageAt d party ≡ Holding l) × P (l .mode)
 
 -- a get that is not refused is in a visit that isn't adding,
-get-possible : (H : Hierarchy) (d : Desk) (party node : ℕ) (values : List ℕ) (v : ℕ) → (getStep H d party node values) .answer ≡ done v
+get-possible : (H : Hierarchy) (d : Desk) (party node : ℕ) (values scratch : List ℕ) (v : ℕ) → (getStep H d party node values scratch) .answer ≡ done v
     → HoldsIn d party (λ m. m ≡ Adding → ⊥)
 get-possible = modes.get-possible
 
 -- a put in a writing one,
-put-possible : (H : Hierarchy) (d : Desk) (party node : ℕ) (values : List ℕ) (value : ℕ) → (putStep H d party node value values) .answer ≡ done tt
+put-possible : (H : Hierarchy) (d : Desk) (party node : ℕ) (values scratch : List ℕ) (value : ℕ) → (putStep H d party node value values scratch) .answer ≡ done tt
     → HoldsIn d party (λ m. m ≡ Writing)
 put-possible = modes.put-possible
 
 -- an add in an adding one,
-add-possible : (H : Hierarchy) (d : Desk) (party node : ℕ) (values : List ℕ) (number : ℕ) → (addStep H d party node number values) .answer ≡ done tt
+add-possible : (H : Hierarchy) (d : Desk) (party node : ℕ) (values scratch : List ℕ) (number : ℕ) → (addStep H d party node number values scratch) .answer ≡ done tt
     → HoldsIn d party (λ m. m ≡ Adding)
 add-possible = modes.add-possible
 
 -- and it leaves at its node the value and the number added, modulo 2 to the 64, and every other value
-add-sum : (H : Hierarchy) (d : Desk) (party node : ℕ) (values : List ℕ) (number : ℕ) → (addStep H d party node number values) .answer ≡ done tt
-    → (addStep H d party node number values) .values ≡ set values node ((getD values node 0 + number) % 2 ^ 64)
+add-sum : (H : Hierarchy) (d : Desk) (party node : ℕ) (values scratch : List ℕ) (number : ℕ) → (addStep H d party node number values scratch) .answer ≡ done tt
+    → (addStep H d party node number values scratch) .values ≡ set values node ((getD values node 0 + number) % 2 ^ 64)
 add-sum = modes.add-sum
 
--- two adds, neither refused, of any parties at any nodes, one behind the other: in either order both are done, and leave the same desk and values
-adds-either : (H : Hierarchy) (d : Desk) (p q r s x y : ℕ) (values : List ℕ)
-    → let one = addStep H d p r x values in let other = addStep H d q s y values in one .answer ≡ done tt → other .answer ≡ done tt
-    → let behind-one = addStep H (one .desk) q s y (one .values) in let behind-other = addStep H (other .desk) p r x (other .values) in
+-- two adds, neither refused, of any parties at any nodes, one behind the other: in either order both are done, and leave the same desk and values; the second is
+-- lent any scratch that is long enough
+adds-either : (H : Hierarchy) (d : Desk) (p q r s x y : ℕ) (values c c′ : List ℕ)
+    → let one = addStep H d p r x values c in let other = addStep H d q s y values c′ in one .answer ≡ done tt → other .answer ≡ done tt
+    → (e e′ : List ℕ) → 256 ≤ length e → 256 ≤ length e′
+    → let behind-one = addStep H (one .desk) q s y (one .values) e in let behind-other = addStep H (other .desk) p r x (other .values) e′ in
     (behind-one .answer ≡ done tt) × (behind-other .answer ≡ done tt) × (behind-one .desk ≡ behind-other .desk) × (behind-one .values ≡ behind-other .values)
 adds-either = modes.adds-either
 
 -- demand 3 above has adds in its lists: the book notes them, and performing them adds (`noted`, `leaves`, history/specs/History)
+
+-- 02, POINT 6. ONLY WHAT WAS CALLED FOR. After any list of steps, over any hierarchy, a party that is not out keeps the names of its last enter that was not refused, ascending
+-- and each once, whether it holds or waits,
+names-kept : (H : Hierarchy) (values : List ℕ) (steps : List Step) (party : ℕ) (l : Lock)
+    → let stage = stageAt ((run steps (start H values)) .state .desk) party in (stage ≡ Holding l) ⊎ (stage ≡ Waiting l)
+    → l .names ≡ named (ascending (givenIn party steps (start H values) []))
+names-kept H values steps party l (inl e) = subst (Keeps (givenIn party steps (start H values) [])) e (given.names-kept H values steps party)
+names-kept H values steps party l (inr e) = subst (Keeps (givenIn party steps (start H values) [])) e (given.names-kept H values steps party)
+
+-- which are those given, ascending and so each once:
+ascending-rises : (names : List ℕ) → rises (ascending names) ≡ true
+ascending-rises = given-names.ascending-rises
+
+ascending-any : (p : ℕ → Bool) (names : List ℕ) → any p (ascending names) ≡ any p names
+ascending-any = given-names.ascending-any
+
+-- eight at most are kept whole
+named-names : (names : List ℕ) → length names ≤ 8 → namesOf (named names) ≡ names
+named-names = given-names.named-names
+
+-- and the lock of every enter that is not refused, over any tables and desk, has 1 to 8 names, each below n, ascending, with intervals inside the cover's: what two clauses of a
+-- sound desk ask (`namesKept`, `namesCovered`, parties/specs/Sound)
+enter-names : (H : Hierarchy) (d : Desk) (party : ℕ) (mode : Mode) (names : List ℕ) (nameCount : ℕ) → enterRefusal H d party names nameCount ≡ none
+    → let lock = lockFor H mode (take nameCount names) in
+    (namesRight (H .n) (lock .names) ≡ true) × ((name : ℕ) → In name (namesOf (lock .names)) → (lock .low ≤ lowIn H name) × (highIn H name ≤ lock .high))
+enter-names H d party mode names nameCount fine =
+    let lock = lockFor H mode (take nameCount names) in
+    let fit = kept.call-fit H d party mode names nameCount fine in (
+      fit .names,
+      λ name i. cover-laws.contains-ends (record { low = lock .low; high = lock .high }) (intervalAt (H .intervals) name) (nested.every-in (λ x. insideLock H x lock) (fit .covered) i),
+    )
+
+-- names play no part in a conflict
+names-unasked : (a b : Lock) (m k : Names)
+    → conflict (record { mode = a .mode; cover = a .cover; low = a .low; high = a .high; names = m }) (record { mode = b .mode; cover = b .cover; low = b .low; high = b .high; names = k })
+    ≡ conflict a b
+names-unasked a b m k = refl
+
+-- the party holds, and P is so of the names of its hold
+abbrev HoldsNames : Desk → ℕ → (List ℕ → Type 0) → Type 0
+HoldsNames d party P = (l : Lock) × (stageAt d party ≡ Holding l) × P (namesOf (l .names))
+
+-- a name of these reaches the node, by the lent edges
+abbrev Reached : Hierarchy → ℕ → List ℕ → Type 0
+Reached H node names = (name : ℕ) × In name names × Reach (edgesOf (H .edges) (H .edgeCount)) name node
+
+-- A GET that is not refused is of a node in the reach of a name; refused with 16, of a node in the reach of none. On any desk, over any tables
+get-sees : (H : Hierarchy) (d : Desk) (party node : ℕ) (values scratch : List ℕ)
+    → ((value : ℕ) → (getStep H d party node values scratch) .answer ≡ done value → HoldsNames d party (Reached H node))
+    × ((getStep H d party node values scratch) .answer ≡ refused 16 → HoldsNames d party (λ names. Reached H node names → ⊥))
+get-sees H d party node values scratch = (
+  λ value e. let v = seen.get-sees H d party node values scratch value e in (v .hold, v .holds, (v .name, v .kept, v .reaches)),
+  λ e. let v = seen.get-sixteen H d party node values scratch e .not-seen in (v .hold, v .holds, λ (name, i, w). v .nowhere name i w),
+)
+
+-- a put, likewise,
+put-sees : (H : Hierarchy) (d : Desk) (party node value : ℕ) (values scratch : List ℕ)
+    → ((putStep H d party node value values scratch) .answer ≡ done tt → HoldsNames d party (Reached H node))
+    × ((putStep H d party node value values scratch) .answer ≡ refused 16 → HoldsNames d party (λ names. Reached H node names → ⊥))
+put-sees H d party node value values scratch = (
+  λ e. let v = seen.put-sees H d party node values scratch value e in (v .hold, v .holds, (v .name, v .kept, v .reaches)),
+  λ e. let v = seen.put-sixteen H d party node values scratch value e .not-seen in (v .hold, v .holds, λ (name, i, w). v .nowhere name i w),
+)
+
+-- and an add
+add-sees : (H : Hierarchy) (d : Desk) (party node number : ℕ) (values scratch : List ℕ)
+    → ((addStep H d party node number values scratch) .answer ≡ done tt → HoldsNames d party (Reached H node))
+    × ((addStep H d party node number values scratch) .answer ≡ refused 16 → HoldsNames d party (λ names. Reached H node names → ⊥))
+add-sees H d party node number values scratch = (
+  λ e. let v = seen.add-sees H d party node values scratch number e in (v .hold, v .holds, (v .name, v .kept, v .reaches)),
+  λ e. let v = seen.add-sixteen H d party node values scratch number e .not-seen in (v .hold, v .holds, λ (name, i, w). v .nowhere name i w),
+)
+
+-- and where nothing that every step looks at refuses it, the node is one and the party holds, with no name that reaches the node: each of the three is refused with 16
+sixteen-given : (H : Hierarchy) (d : Desk) (party node : ℕ) (values scratch : List ℕ)
+    → refusal (stepChecks H d party (valuesShort H values scratch) []) ≡ none → node < H .n → HoldsNames d party (λ names. Reached H node names → ⊥)
+    → ((getStep H d party node values scratch) .answer ≡ refused 16)
+    × ((value : ℕ) → (putStep H d party node value values scratch) .answer ≡ refused 16)
+    × ((number : ℕ) → (addStep H d party node number values scratch) .answer ≡ refused 16)
+sixteen-given H d party node values scratch fine below (l, holds, nowhere) =
+    seen.sixteen-given H d party node values scratch fine below (record { hold = l; holds = holds; nowhere = λ name i w. nowhere (name, i, w) })
+
+-- so a get, put or add that is not refused, taken after any list of steps and with any tables, is of a node that a name given in the party's last enter that was not refused reaches,
+visit-sees : (H : Hierarchy) (values : List ℕ) (steps : List Step) (K : Hierarchy) (party node : ℕ) (buffer scratch : List ℕ)
+    → let d = (run steps (start H values)) .state .desk in let names = givenIn party steps (start H values) [] in
+    ((value : ℕ) → (getStep K d party node buffer scratch) .answer ≡ done value → Reached K node names)
+    × ((value : ℕ) → (putStep K d party node value buffer scratch) .answer ≡ done tt → Reached K node names)
+    × ((number : ℕ) → (addStep K d party node number buffer scratch) .answer ≡ done tt → Reached K node names)
+visit-sees H values steps K party node buffer scratch = (
+  given.visit-gets H values steps K party node buffer scratch,
+  given.visit-puts H values steps K party node buffer scratch,
+  given.visit-adds H values steps K party node buffer scratch,
+)
+
+-- and one refused with 16 of a node that none of these names reaches
+visit-sixteen : (H : Hierarchy) (values : List ℕ) (steps : List Step) (K : Hierarchy) (party node : ℕ) (buffer scratch : List ℕ)
+    → let d = (run steps (start H values)) .state .desk in let names = givenIn party steps (start H values) [] in
+    ((getStep K d party node buffer scratch) .answer ≡ refused 16 → Reached K node names → ⊥)
+    × ((value : ℕ) → (putStep K d party node value buffer scratch) .answer ≡ refused 16 → Reached K node names → ⊥)
+    × ((number : ℕ) → (addStep K d party node number buffer scratch) .answer ≡ refused 16 → Reached K node names → ⊥)
+visit-sixteen H values steps K party node buffer scratch = (
+  given.visit-get-sixteen H values steps K party node buffer scratch,
+  given.visit-put-sixteen H values steps K party node buffer scratch,
+  given.visit-add-sixteen H values steps K party node buffer scratch,
+)
+
+-- THE SCRATCH of the search: after refusal 1 it is unchanged, after any other end its first 256 bytes are zero and the rest unchanged. Of get,
+get-scratch : (H : Hierarchy) (d : Desk) (party node : ℕ) (values scratch : List ℕ) → let r = getStep H d party node values scratch in
+    (r .answer ≡ refused 1 → r .scratch ≡ scratch) × ((r .answer ≡ refused 1 → ⊥) → r .scratch ≡ over (replicate 256 0) scratch)
+get-scratch H d party node values scratch = (used.get-scratch-one H d party node values scratch, used.get-scratch-other H d party node values scratch)
+
+-- of put
+put-scratch : (H : Hierarchy) (d : Desk) (party node value : ℕ) (values scratch : List ℕ) → let r = putStep H d party node value values scratch in
+    (r .answer ≡ refused 1 → r .scratch ≡ scratch) × ((r .answer ≡ refused 1 → ⊥) → r .scratch ≡ over (replicate 256 0) scratch)
+put-scratch H d party node value values scratch = (used.put-scratch-one H d party node values scratch value, used.put-scratch-other H d party node values scratch value)
+
+-- and of add
+add-scratch : (H : Hierarchy) (d : Desk) (party node number : ℕ) (values scratch : List ℕ) → let r = addStep H d party node number values scratch in
+    (r .answer ≡ refused 1 → r .scratch ≡ scratch) × ((r .answer ≡ refused 1 → ⊥) → r .scratch ≡ over (replicate 256 0) scratch)
+add-scratch H d party node number values scratch = (used.add-scratch-one H d party node values scratch number, used.add-scratch-other H d party node values scratch number)
+
+-- demand 3 above lends each step of a list scratch of any length and contents (`Call`, runs/specs/Run)
 
 -- THE STARRED CASES, with the papers' figures, those of {8}, of the ninth case and of the listing as document 02's points 1 and 4 have them: each passes, by computation. Table T and
 -- the table of the ninth case

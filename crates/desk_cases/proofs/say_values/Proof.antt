@@ -6,10 +6,10 @@ use Rattle.desk_cases.proofs.say_values.Statement.{statement}
 use Rattle.desk_cases.proofs.say_values.Tie as tie
 
 abbrev Inv-loop : tie.InvT-loop
-Inv-loop desk values i₀ t5 i = Unit {0}
+Inv-loop values i₀ t4 i = Unit {0}
 
 abbrev μ-loop : tie.MeasureT-loop
-μ-loop desk values i₀ t5 i = length values - i
+μ-loop values i₀ t4 i = length values - i
 
 loop-holds : tie.Need-loop-holds Inv-loop μ-loop
 loop-holds c = tt

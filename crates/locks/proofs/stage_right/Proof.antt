@@ -2,19 +2,20 @@
 use mathlib.Core.Path.{sym, ap, _∙_}
 use borrow.Author.Needs.{needs}
 use Rattle.locks.specs.Stages.{ofLock}
-use Rattle.locks.specs.Lent.{spanned, coverRight}
+use Rattle.locks.specs.Lent.{spanned}
+use Rattle.locks.specs.Inner.{lockFits}
 use Rattle.locks.proofs.stage_right.Statement.{statement}
 use Rattle.locks.proofs.stage_right.Tie as tie
 
 returns-2 : tie.Need-returns-2
 returns-2 c =
     let z = c .before .before .before .before .before .args in
-    c .lock-right .ensures ∙ sym (ap (ofLock (coverRight (spanned (z .n) (z .intervals .now)))) (c .before .before .s .given .1))
+    c .lock-fits .ensures ∙ sym (ap (ofLock (lockFits (spanned (z .n) (z .intervals .now)))) (c .before .before .s .given .1))
 
 returns-3 : tie.Need-returns-3
 returns-3 c =
     let z = c .before .before .before .before .before .args in
-    c .lock-right2 .ensures ∙ sym (ap (ofLock (coverRight (spanned (z .n) (z .intervals .now)))) (c .before .before .s2 .given .1))
+    c .lock-fits2 .ensures ∙ sym (ap (ofLock (lockFits (spanned (z .n) (z .intervals .now)))) (c .before .before .s2 .given .1))
 
 pub stage-right-spec : {M : Type 1} → statement M
 stage-right-spec =

@@ -10,7 +10,8 @@ use Rattle.lists.specs.Lists.{allBelow, anyBelow}
 use Rattle.lists.proofs.Bools.{and-both}
 use Rattle.lists.proofs.Bounded.{all-next, all-stop, all-end}
 use Rattle.locks.specs.Stages.{isWaiting, againstHolder, holdersConflict, ofLock}
-use Rattle.locks.specs.Lent.{spanned, coverRight}
+use Rattle.locks.specs.Lent.{spanned}
+use Rattle.locks.specs.Inner.{lockFits}
 use Rattle.parties.specs.declared.Entry.{Entry}
 use Rattle.parties.specs.Parties.{stageIn}
 use Rattle.parties.specs.Sound.{isListed}
@@ -23,7 +24,7 @@ abbrev isIn : List Entry → List ℕ → ℕ → ℕ → Bool
 isIn entries queue waiting k = not (isWaiting (stageIn entries k)) || isListed queue waiting k
 
 abbrev fits : ℕ → List ℕ → List Entry → ℕ → Bool
-fits n intervals entries k = ofLock (coverRight (spanned n intervals)) (stageIn entries k)
+fits n intervals entries k = ofLock (lockFits (spanned n intervals)) (stageIn entries k)
 
 abbrev apart : List Entry → ℕ → Bool
 apart entries k = allBelow k (λ other. not (holdersConflict (stageIn entries k) (stageIn entries other)))

@@ -13,17 +13,19 @@ use Rattle.replay.proofs.perform_get.Tie as tie
 
 returns : tie.Need-returns
 returns c =
-    let g = c .before .before .before in
-    let z = g .before .before .before .before .before .before .before .args in
-    got-performs (lent (z .n) (z .intervals .now) (z .edges .now) (z .edge-count)) (z .desk) (z .bytes .now) (g .before .before .byte .result) (g .before .before .byte .ensures)
-    (g .before .byte2 .result) (g .before .byte2 .ensures) (z .values .now) (g .get .result) (c .not-got .result) (g .get .ensures) (c .not-got .ensures)
+    let g = c .before .before .before .before in
+    let b = g .before .before in
+    let z = b .before .before .before .before .before .before .args in
+    got-performs (lent (z .n) (z .intervals .now) (z .edges .now) (z .edge-count)) (z .desk) (z .bytes .now) (b .before .byte .result) (b .before .byte .ensures)
+    (b .byte2 .result) (b .byte2 .ensures) (z .values .now) _ (g .get .result) (c .not-got .result) (g .get .ensures) (c .not-got .ensures)
 
 returns-2 : tie.Need-returns-2
 returns-2 c =
-    let g = c .before .before .before .before in
-    let z = g .before .before .before .before .before .before .before .args in
-    got-performs (lent (z .n) (z .intervals .now) (z .edges .now) (z .edge-count)) (z .desk) (z .bytes .now) (g .before .before .byte .result) (g .before .before .byte .ensures)
-    (g .before .byte2 .result) (g .before .byte2 .ensures) (z .values .now) (g .get .result) (Value (c .before .answer .given .0 .0)) (g .get .ensures)
+    let g = c .before .before .before .before .before in
+    let b = g .before .before in
+    let z = b .before .before .before .before .before .before .args in
+    got-performs (lent (z .n) (z .intervals .now) (z .edges .now) (z .edge-count)) (z .desk) (z .bytes .now) (b .before .byte .result) (b .before .byte .ensures)
+    (b .byte2 .result) (b .byte2 .ensures) (z .values .now) _ (g .get .result) (Value (c .before .answer .given .0 .0)) (g .get .ensures)
     (sym (ap (λ (a : GetAnswer). outcomeOf (getLine (getMeaning a))) (c .before .answer .given .1)))
 
 pub perform-get-spec : {M : Type 1} → statement M
@@ -33,6 +35,7 @@ perform-get-spec =
     (λ c κs. search needs)
     (λ c. search needs)
     (λ c κs. search needs)
+    (λ c. search needs)
     (λ c. search needs)
     (λ c κs. search needs)
     (λ c. search needs)

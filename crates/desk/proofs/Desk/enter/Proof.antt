@@ -5,7 +5,7 @@ use mathlib.Core.List.{List}
 use mathlib.Core.Option.{none}
 use native.Mathlib.Omega.{arith}
 use lib.Dec.{ltb}
-use lib.ListN.{length}
+use lib.ListN.{length, take}
 use lib.Seq.{length-take-le}
 use borrow.Author.Needs.{needs}
 use borrow.Author.Tests.{ltb-false}
@@ -13,10 +13,11 @@ use Rattle.lists.specs.Answer.{Check, refusal}
 use Rattle.lists.proofs.Refusals.{refusal-nil, refused-here, refused-later}
 use Rattle.hierarchy.proofs.Legals.{right-size}
 use Rattle.locks.specs.Stages.{isOut}
-use Rattle.locks.specs.Lent.{Hierarchy, lent}
+use Rattle.locks.specs.Lent.{Hierarchy, lent, coverIn, lockOn, lockFor}
 use Rattle.desk.specs.Desks.{stageAt}
 use Rattle.desk.specs.Steps.{StepFacts, enterOwn, enterRefusal}
 use Rattle.desk.proofs.Judging.{judged-own, judged-some, judged-facts, few-waiting}
+use Rattle.desk.proofs.Called.{names-stored}
 use Rattle.desk.proofs.Answering.{enter-refused, enter-granted, enter-waits}
 use Rattle.desk.proofs.Desk.enter.Statement.{statement}
 use Rattle.desk.proofs.Desk.enter.Tie as tie
@@ -62,6 +63,20 @@ none-left c = let t = c .before .before in
     passed (t .before .before .before .before) ∙ refused-later _ _ (found (t .before) ∙ t .if2 .left)
     ∙ refused-later _ _ (sym (c .before .names-wrong .ensures) ∙ c .if3 .left) ∙ refusal-nil
 
+-- the lock, with the names that are kept
+locked : (l : tie.After-lock-called) → (let t = l .before .before in
+    let s = t .before .before .before .before .before .before .before .before .before .before .before in
+    l .lock-called .result ≡ lockFor (lentTo s) (s .args .mode) (take (s .args .name-count) (s .args .names .now)))
+locked l =
+    let t = l .before .before in
+    let s = t .before .before .before .before .before .before .before .before .before .before .before in
+    let H = lentTo s in
+    let called = take (s .args .name-count) (s .args .names .now) in
+    l .lock-called .ensures
+    ∙ ap (lockOn H (s .args .mode) (coverIn H called))
+    (names-stored (s .args .n) (s .args .names .now) (s .args .name-count) (sym (t .before .names-wrong .ensures) ∙ t .if3 .left)
+    (right-size (s .args .n) (facts (t .before .before .before .before .before .before) .sized) .1))
+
 returns : tie.Need-returns
 returns c = let s = c .before .before .before .before .before in
     enter-refused (lentTo s) (s .args .self) (s .args .party) (s .args .mode) (s .args .names .now) (s .args .name-count) (c .before .judge .result)
@@ -90,7 +105,7 @@ granted-requires c κs = facts (c .before .before .before .before .before .befor
 returns-4 : tie.Need-returns-4
 returns-4 c = let l = c .before .before .before .before in let t = l .before .before in let s = t .before .before .before .before .before .before .before .before .before .before .before in
     enter-granted (lentTo s) (s .args .self) (s .args .party) (s .args .mode) (s .args .names .now) (s .args .name-count) _ _ (none-left t)
-    (l .lock-called .ensures) (sym (c .before .before .is-free .ensures) ∙ c .before .if4 .taken) (c .granted .ensures)
+    (locked l) (sym (c .before .before .is-free .ensures) ∙ c .before .if4 .taken) (c .granted .ensures)
 
 queued-requires : tie.Need-queued-requires
 queued-requires c κs = let t = c .before .before .before .before .before .before .before .before .before .before .before in let s = t .before .before .before .before .before in
@@ -99,7 +114,7 @@ queued-requires c κs = let t = c .before .before .before .before .before .befor
 returns-5 : tie.Need-returns-5
 returns-5 c = let l = c .before .before .before .before in let t = l .before .before in let s = t .before .before .before .before .before .before .before .before .before .before .before in
     enter-waits (lentTo s) (s .args .self) (s .args .party) (s .args .mode) (s .args .names .now) (s .args .name-count) _ _ (none-left t)
-    (l .lock-called .ensures) (sym (c .before .before .is-free .ensures) ∙ c .before .if4 .left) (c .queued .ensures)
+    (locked l) (sym (c .before .before .is-free .ensures) ∙ c .before .if4 .left) (c .queued .ensures)
 
 pub enter-spec : {M : Type 1} → statement M
 enter-spec =

@@ -1,0 +1,4 @@
+pub mod Inserting
+pub mod Gathering
+pub mod Rising
+pub mod Sorting
