@@ -179,7 +179,7 @@ impl Desk {
         0
     }
 
-    // What get, put and add look at besides: the number of the first refusal that holds, or 0. The scratch of the search is 0 before and after.
+    // What get, put and add look at besides: the number of the first refusal that holds, or 0. The first n bytes of the scratch are 0, and it is left as it was.
     fn judge_node(
         self,
         n: usize,

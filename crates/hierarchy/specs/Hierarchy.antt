@@ -55,7 +55,7 @@ spreads (suc k) es flags = spreads k es (spread es flags)
 unfoldable pub reach : ℕ → List ℕ → ℕ → List ℕ
 reach n es node = spreads n es (set (replicate n 0) node 1)
 
--- the node is in the reach of one of these; a name or a node that is not below n is in none
+-- the node is in the reach of one of these; a name not below n reaches nothing, and a node not below n is in no reach
 abbrev pub inReach : ℕ → List ℕ → List ℕ → ℕ → Bool
 inReach n es names node = any (λ name. flagged (reach n es name) node) names
 

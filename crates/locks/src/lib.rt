@@ -220,7 +220,7 @@ fn lock_fits(n: usize, intervals: &[u16], l: Lock) -> bool
     covers_names(intervals, l)
 }
 
-// Whether what a party at this stage holds or waits for has a right cover and right names.
+// Whether what a party at this stage holds or waits for has a right cover, and right names inside it.
 pub fn stage_right(n: usize, intervals: &[u16], s: Stage) -> bool
     ensures { λ r. ⌜ r ≡ ofLock (lockFits (spanned n (now (intervals .entry)))) s ⌝ }
 {

@@ -60,7 +60,7 @@ builtOf rs = lent (sizeOf rs) (intervalTable (sizeOf rs) (edgeTable rs)) (edgeTa
 abbrev pub enterCall : List ℕ → Call
 enterCall r = enter (partyIn r) (modeNumbered (modeIn r)) (namesIn r) (nameCountIn r)
 
--- the scratch that a get, put or add record is lent for its search: 256 bytes
+-- the scratch that a get, put or add record is lent for its search: 256 zeros
 abbrev pub freshScratch : List ℕ
 freshScratch = replicate 256 0
 
