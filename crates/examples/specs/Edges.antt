@@ -15,7 +15,7 @@ use Rattle.locks.specs.declared.Mode.the-variants.{Reading, Writing, Adding}
 use Rattle.locks.specs.declared.Stage.the-variants.{Waiting, Holding}
 use Rattle.desk.specs.declared.Desk.{Desk}
 use Rattle.naming.specs.declared.Names.{Names}
-use Rattle.naming.specs.Names.{named}
+use Rattle.naming.specs.Names.{placesOf, namesAt, named}
 use Rattle.locks.specs.Locks.{conflictCall}
 use Rattle.locks.specs.Lent.{Hierarchy, lent, tablesShort, intervalWrong}
 use Rattle.parties.specs.Parties.{entryOf}
@@ -32,7 +32,7 @@ use Rattle.examples.specs.Steps.{locked, lock, seat, list}
 
 -- names with another count
 abbrev pub recounted : Names → ℕ → Names
-recounted m count = record { a = m .a; b = m .b; c = m .c; d = m .d; e = m .e; f = m .f; g = m .g; h = m .h; count = count }
+recounted m count = namesAt (placesOf m) count
 
 -- two nodes and one edge, with these intervals
 abbrev pub two : List ℕ → Hierarchy

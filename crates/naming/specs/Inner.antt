@@ -47,18 +47,3 @@ listed l = take (l .count) (l .places)
 pub record Roomy (l : Row) : Type 0 where
   pub form : l ≡ rowOf (listed l)
   pub room : l .count < 8
-
--- names at eight places, with their count
-abbrev pub namesAt : List ℕ → ℕ → Names
-namesAt p count =
-    record {
-      a = getD p 0 0;
-      b = getD p 1 0;
-      c = getD p 2 0;
-      d = getD p 3 0;
-      e = getD p 4 0;
-      f = getD p 5 0;
-      g = getD p 6 0;
-      h = getD p 7 0;
-      count = count;
-    }
