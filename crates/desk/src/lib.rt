@@ -120,14 +120,6 @@ fn put_list(places: &[u8], count: usize, list: &mut [u8])
 // Bytes of the scratch that get, put and add are lent for their search.
 const SEARCH: usize = 256;
 
-// Puts 0 into the bytes of the search.
-fn wipe(scratch: &mut [u8])
-    requires { ⌜ 256 ≤ length (now scratch) ⌝ }
-    ensures { λ _. ⌜ now (scratch .exit) ≡ over (replicate 256 0) (now (scratch .entry)) ⌝ }
-{
-    hierarchy::clear(&mut scratch[..SEARCH]);
-}
-
 // A number added to a value, modulo 2 to the 64.
 fn sum(value: u64, number: u64) -> u64
     ensures { λ r. ⌜ r ≡ sum64 value number ⌝ }
@@ -229,7 +221,7 @@ impl Desk {
         if locks::tables_short(n, intervals, edges, edge_count) | short {
             return 1;
         }
-        wipe(scratch);
+        hierarchy::clear_first(SEARCH, scratch);
         let k = self.judge(n, intervals, edges, edge_count, party, short);
         if k != 0 {
             return k;

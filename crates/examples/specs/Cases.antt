@@ -49,7 +49,7 @@ sameAnswers (a ∷ xs) (b ∷ bs) = sameNumbers (asNumbers a) (asNumbers b) && s
 
 -- building, lent just what it needs
 abbrev pub built : ℕ → List ℕ → BuildResult
-built n edges = buildStep n edges (length edges / 2) (replicate (2 * n) 0) (replicate 2048 0)
+built n edges = buildStep n edges (length edges / 2) (replicate (2 * n) 0) (replicate 512 0)
 
 -- it is not refused
 unfoldable pub unrefused : BuildResult → Bool

@@ -70,12 +70,12 @@ leaveLent bytes = numberOf (leaveRefusal ones holding 1 (replicate bytes 0))
 -- the conditions, lowest number first; those of blocks, of records and of a sound desk are below
 unfoldable pub edges : List Row
 edges =
-    -- 1, a lent buffer is shorter than needed. Building writes 2n numbers, an edge table has two numbers an edge, it needs 2,048 bytes of scratch: of n = 2, 4 and 3
-    -- places, 2 numbers and 1, 2,048 bytes and 2,047
-    is (one (buildShort 2 (0 ∷ 1 ∷ []) 1 (replicate 4 0) (replicate 2048 0))) 0
-    ∷ is (one (buildShort 2 (0 ∷ 1 ∷ []) 1 (replicate 3 0) (replicate 2048 0))) 1
-    ∷ is (one (buildShort 2 (0 ∷ []) 1 (replicate 4 0) (replicate 2048 0))) 1
-    ∷ is (one (buildShort 2 (0 ∷ 1 ∷ []) 1 (replicate 4 0) (replicate 2047 0))) 1
+    -- 1, a lent buffer is shorter than needed. Building writes 2n numbers, an edge table has two numbers an edge, it needs 512 bytes of scratch: of n = 2, 4 and 3
+    -- places, 2 numbers and 1, 512 bytes and 511
+    is (one (buildShort 2 (0 ∷ 1 ∷ []) 1 (replicate 4 0) (replicate 512 0))) 0
+    ∷ is (one (buildShort 2 (0 ∷ 1 ∷ []) 1 (replicate 3 0) (replicate 512 0))) 1
+    ∷ is (one (buildShort 2 (0 ∷ []) 1 (replicate 4 0) (replicate 512 0))) 1
+    ∷ is (one (buildShort 2 (0 ∷ 1 ∷ []) 1 (replicate 4 0) (replicate 511 0))) 1
     -- every step is lent the intervals and the edges
     ∷ is (one (tablesShort ones)) 0
     ∷ is (one (tablesShort (two (replicate 3 1)))) 1

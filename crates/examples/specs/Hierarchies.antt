@@ -27,29 +27,40 @@ boundsT names = let call = callInterval (intervalTable 10 T) names in call .low 
 unfoldable pub hierarchies : List Row
 hierarchies =
     -- 1: the edge table is one number short; 1 before 5
-    is (numberOf (buildRefusal 2 (0 ∷ []) 1 (replicate 4 7) (replicate 2048 9))) 1
-    ∷ is (building 0 (0 ∷ 1 ∷ []) 2047) 1
-    ∷ is (building 0 (0 ∷ 1 ∷ []) 2048) 5
+    is (numberOf (buildRefusal 2 (0 ∷ []) 1 (replicate 4 7) (replicate 512 9))) 1
+    ∷ is (building 0 (0 ∷ 1 ∷ []) 511) 1
+    ∷ is (building 0 (0 ∷ 1 ∷ []) 512) 5
     -- 1,025 edges: 6; 5 before it, for 257 nodes
-    ∷ is (building 2 (replicate 2050 0) 2048) 6
-    ∷ is (building 257 (replicate 2050 0) 2048) 5
+    ∷ is (building 2 (replicate 2050 0) 512) 6
+    ∷ is (building 257 (replicate 2050 0) 512) 5
     -- 7 at a later edge: child 0, a child and a parent not below n; 7 before 8
-    ∷ is (building 2 (0 ∷ 1 ∷ 1 ∷ 0 ∷ []) 2048) 7
-    ∷ is (building 2 (0 ∷ 1 ∷ 0 ∷ 2 ∷ []) 2048) 7
-    ∷ is (building 2 (0 ∷ 1 ∷ 2 ∷ 1 ∷ []) 2048) 7
-    ∷ is (building 2 (0 ∷ 1 ∷ 0 ∷ 1 ∷ 1 ∷ 1 ∷ []) 2048) 7
+    ∷ is (building 2 (0 ∷ 1 ∷ 1 ∷ 0 ∷ []) 512) 7
+    ∷ is (building 2 (0 ∷ 1 ∷ 0 ∷ 2 ∷ []) 512) 7
+    ∷ is (building 2 (0 ∷ 1 ∷ 2 ∷ 1 ∷ []) 512) 7
+    ∷ is (building 2 (0 ∷ 1 ∷ 0 ∷ 1 ∷ 1 ∷ 1 ∷ []) 512) 7
     -- 8: the second edge again as the fourth
-    ∷ is (building 3 (0 ∷ 1 ∷ 1 ∷ 2 ∷ 0 ∷ 2 ∷ 1 ∷ 2 ∷ []) 2048) 8
+    ∷ is (building 3 (0 ∷ 1 ∷ 1 ∷ 2 ∷ 0 ∷ 2 ∷ 1 ∷ 2 ∷ []) 512) 8
     -- 9: a cycle that the root does not reach
-    ∷ is (building 4 (0 ∷ 1 ∷ 2 ∷ 3 ∷ 3 ∷ 2 ∷ []) 2048) 9
-    -- after 1 the scratch is unchanged; after another refusal, and where it is built, its first 2,048 bytes are zero
-    ∷ are ((pair (0 ∷ 1 ∷ []) 2047) .scratch) (replicate 2047 9)
-    ∷ are ((pair (1 ∷ 1 ∷ []) 2050) .scratch) (replicate 2048 0 ++ (9 ∷ 9 ∷ []))
-    ∷ are ((pair (0 ∷ 1 ∷ []) 2050) .scratch) (replicate 2048 0 ++ (9 ∷ 9 ∷ []))
-    -- after a refusal the places are unchanged; those past 2n stay so where it is built
-    ∷ are ((pair (0 ∷ 1 ∷ []) 2047) .places) (replicate 5 7)
-    ∷ are ((pair (1 ∷ 1 ∷ []) 2050) .places) (replicate 5 7)
-    ∷ are ((pair (0 ∷ 1 ∷ []) 2050) .places) (1 ∷ 1 ∷ 1 ∷ 1 ∷ 7 ∷ [])
+    ∷ is (building 4 (0 ∷ 1 ∷ 2 ∷ 3 ∷ 3 ∷ 2 ∷ []) 512) 9
+    -- after 1 the scratch is unchanged, also where 2,048 bytes are lent and the places are too few;
+    ∷ are ((pair (0 ∷ 1 ∷ []) 511) .scratch) (replicate 511 9)
+    ∷ are ((pair (1 ∷ 1 ∷ []) 511) .scratch) (replicate 511 9)
+    ∷ are ((buildStep 3 (0 ∷ 1 ∷ 0 ∷ 2 ∷ []) 2 (replicate 5 7) (replicate 2048 9)) .scratch) (replicate 2048 9)
+    -- after another refusal, 5 to 9 (where 1,025 edges are 6), and where it is built, its first 512 bytes are zero, and the rest unchanged
+    ∷ are ((buildStep 0 [] 0 [] (replicate 512 9)) .scratch) (replicate 512 0)
+    ∷ are ((buildStep 2 (replicate 2050 0) 1025 (replicate 5 7) (replicate 514 9)) .scratch) (replicate 512 0 ++ (9 ∷ 9 ∷ []))
+    ∷ are ((pair (1 ∷ 1 ∷ []) 514) .scratch) (replicate 512 0 ++ (9 ∷ 9 ∷ []))
+    ∷ are ((pair (1 ∷ 1 ∷ []) 2048) .scratch) (replicate 512 0 ++ replicate 1536 9)
+    ∷ are ((pair (0 ∷ 1 ∷ 0 ∷ 1 ∷ []) 513) .scratch) (replicate 512 0 ++ (9 ∷ []))
+    ∷ are ((pair [] 512) .scratch) (replicate 512 0)
+    ∷ are ((pair (0 ∷ 1 ∷ []) 512) .scratch) (replicate 512 0)
+    ∷ are ((pair (0 ∷ 1 ∷ []) 513) .scratch) (replicate 512 0 ++ (9 ∷ []))
+    ∷ are ((pair (0 ∷ 1 ∷ []) 2048) .scratch) (replicate 512 0 ++ replicate 1536 9)
+    -- after a refusal the places are unchanged; those past 2n stay so where it is built, and 512 bytes give what 2,048 give
+    ∷ are ((pair (0 ∷ 1 ∷ []) 511) .places) (replicate 5 7)
+    ∷ are ((pair (1 ∷ 1 ∷ []) 514) .places) (replicate 5 7)
+    ∷ are ((pair (0 ∷ 1 ∷ []) 512) .places) (1 ∷ 1 ∷ 1 ∷ 1 ∷ 7 ∷ [])
+    ∷ are ((pair (0 ∷ 1 ∷ []) 2048) .places) (1 ∷ 1 ∷ 1 ∷ 1 ∷ 7 ∷ [])
     -- covers over tables of any contents: the narrower of two, and not a node past n; 0 where none contains the call's
     ∷ is (coverOf 2 (5 ∷ 6 ∷ 1 ∷ 9 ∷ []) (1 ∷ [])) 1
     ∷ is (coverOf 1 (5 ∷ 6 ∷ 1 ∷ 9 ∷ []) (1 ∷ [])) 0

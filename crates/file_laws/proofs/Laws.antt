@@ -109,13 +109,13 @@ module _ (rs : List (List ℕ)) where
     places = replicate (2 * sizeOf rs) 0
 
     abbrev scratch : List ℕ
-    scratch = replicate 2048 0
+    scratch = replicate 512 0
 
     not-short : buildShort (sizeOf rs) (edgeTable rs) (edgeCountOf rs) places scratch ≡ false
     not-short =
         let a : ltb (length places) (2 * sizeOf rs) ≡ false = le-ltb (length places) (2 * sizeOf rs) (omega (arith, length-replicate {A = ℕ} (2 * sizeOf rs) 0)) in
         let b : ltb (length (edgeTable rs)) (2 * edgeCountOf rs) ≡ false = le-ltb (length (edgeTable rs)) (2 * edgeCountOf rs) (omega (arith, edge-table-length rs)) in
-        let c : ltb (length scratch) 2048 ≡ false = le-ltb (length scratch) 2048 (omega (arith, length-replicate {A = ℕ} 2048 0)) in
+        let c : ltb (length scratch) 512 ≡ false = le-ltb (length scratch) 512 (omega (arith, length-replicate {A = ℕ} 512 0)) in
         rw (a, b, c) refl
 
     accepted : buildRefusal (sizeOf rs) (edgeTable rs) (edgeCountOf rs) places scratch ≡ none

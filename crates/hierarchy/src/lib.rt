@@ -3,7 +3,7 @@ ghost use mathlib.Core.Path.{_≡_};
 ghost use Prim.Native.Nat.{_+_, _*_, _/_, min};
 ghost use lib.Dec.{eqb};
 ghost use lib.ListN.{length, getD, set, drop, replicate};
-ghost use Rattle.lists.specs.Lists.{any, zeros, Went, Below};
+ghost use Rattle.lists.specs.Lists.{any, over, zeros, Went, Below};
 ghost use Rattle.lists.specs.Answer.{refusal, numberOf};
 ghost use Rattle.hierarchy.specs.Hierarchy.{edgesOf, someEdge, spread, spreads, flagged, inReach, flagAll, reachAll, edgeWrong, sameEdge, edgeTwice, sizeWrong, someUnreached, hierarchyChecks};
 ghost use Rattle.hierarchy.specs.Inner.{endsAt, unflagged, Grown};
@@ -176,6 +176,17 @@ pub fn clear(bytes: &mut [u8])
         bytes[i] = 0;
         i += 1;
     }
+}
+
+// Sets the first bytes to 0, so many of them, or all where there are fewer.
+pub fn clear_first(count: usize, bytes: &mut [u8])
+    ensures { λ _. ⌜ now (bytes .exit) ≡ over (replicate (min count (length (now (bytes .entry)))) 0) (now (bytes .entry)) ⌝ }
+{
+    if bytes.len() <= count {
+        clear(bytes);
+        return;
+    }
+    clear(&mut bytes[..count]);
 }
 
 // Sets each word to 0.

@@ -253,7 +253,7 @@ taken n edges edgeCount places scratch e =
       edges-long =
           ltb-false (length edges) (2 * edgeCount)
           (or-right (ltb (length places) (2 * n)) (ltb (length edges) (2 * edgeCount))
-          (or-left (ltb (length places) (2 * n) || ltb (length edges) (2 * edgeCount)) (ltb (length scratch) 2048) short));
+          (or-left (ltb (length places) (2 * n) || ltb (length edges) (2 * edgeCount)) (ltb (length scratch) 512) short));
       wrote =
           ap (λ (r : Option ℕ). take (2 * n) (roomAfter r table places)) o
           ∙ ap (λ (k : ℕ). take k (table ++ drop (length table) places)) (sym (built-length n (edgesOf edges edgeCount)))

@@ -2,4 +2,5 @@
 -- rest on of the numbering.
 pub mod Numbers
 pub mod Laws
+pub mod Scratch
 pub mod Covers

@@ -1,12 +1,11 @@
 -- Building: what it leaves after each of its ends. Assumes nothing.
 use mathlib.Core.Path.{_≡_, refl, sym, ap, _∙_}
-use mathlib.Core.List.{List, [], _∷_, _++_, append-nil}
+use mathlib.Core.List.{List, [], _∷_, append-nil}
 use mathlib.Core.Bool.{Bool, true, false}
 use mathlib.Core.Option.{Option, none, some}
-use Prim.Native.Nat.{ℕ, _+_, _*_, _-_, _/_, _≤_, _<_}
+use Prim.Native.Nat.{ℕ, _*_, _/_, _≤_, _<_}
 use native.Mathlib.Omega.{arith}
-use lib.ListN.{length, take, drop, replicate, length-replicate, drop-of-length-le}
-use lib.Seq.{length-take-le, drop-append-add, drop-drop}
+use lib.ListN.{length, replicate, drop-of-length-le}
 use borrow.Author.Tests.{lt-ltb, le-ltb}
 use Rattle.lists.specs.Lists.{over}
 use Rattle.lists.specs.Answer.{Answer, done, refused, Check, _when_, refusal, numberOf, answerOf, roomAfter}
@@ -16,26 +15,6 @@ use Rattle.intervals.specs.Intervals.{intervalTable}
 use Rattle.intervals.specs.Build.{buildShort, buildStep, numbersShort, numbersStep}
 use Rattle.lists.proofs.Bools.{bool}
 use Rattle.lists.proofs.Refusals.{refused-here, refused-later}
-
--- ---- parts that came back
-
--- a first part that came back leaves what stands behind it
-pub behind : (size n : ℕ) (part l : List ℕ) → n ≤ size → n ≤ length l → length part ≡ length (take n l) → drop size (part ++ drop n l) ≡ drop size l
-behind size n part l h g e =
-    let k : length part ≡ n = e ∙ length-take-le n l g in
-    let s : size ≡ length part + (size - n) = omega arith in
-    let t : n + (size - n) ≡ size = omega arith in
-    ap (λ (m : ℕ). drop m (part ++ drop n l)) s ∙ drop-append-add part (drop n l) (size - n) ∙ drop-drop (size - n) n l ∙ ap (λ (m : ℕ). drop m l) t
-
--- a first part that was written
-pub laid : (size : ℕ) (table part l : List ℕ) → part ≡ table → size ≤ length l → length part ≡ length (take size l) → part ++ drop size l ≡ over table l
-unfolding over
-laid size table part l e h k = rw (← e, ← k ∙ length-take-le size l h) refl
-
--- zeros over what differs only where they stand
-pub zeroed : (size : ℕ) (l l₀ : List ℕ) → drop size l ≡ drop size l₀ → over (replicate size 0) l ≡ over (replicate size 0) l₀
-unfolding over
-zeroed size l l₀ d = rw (length-replicate {A = ℕ} size 0, d) refl
 
 -- ---- the refusals
 
@@ -69,11 +48,11 @@ module _ (n : ℕ) (edges : List ℕ) (count : ℕ) where
     pub short-edges : n ≤ length places / 2 → length edges / 2 < count → buildShort n edges count places scratch ≡ true
     short-edges g h = rw (le-ltb (length places) (2 * n) (omega arith), lt-ltb (length edges) (2 * count) (omega arith)) refl
 
-    pub short-scratch : n ≤ length places / 2 → count ≤ length edges / 2 → length scratch < 2048 → buildShort n edges count places scratch ≡ true
-    short-scratch g f h = rw (le-ltb (length places) (2 * n) (omega arith), le-ltb (length edges) (2 * count) (omega arith), lt-ltb (length scratch) 2048 h) refl
+    pub short-scratch : n ≤ length places / 2 → count ≤ length edges / 2 → length scratch < 512 → buildShort n edges count places scratch ≡ true
+    short-scratch g f h = rw (le-ltb (length places) (2 * n) (omega arith), le-ltb (length edges) (2 * count) (omega arith), lt-ltb (length scratch) 512 h) refl
 
-    pub long-enough : n ≤ length places / 2 → count ≤ length edges / 2 → 2048 ≤ length scratch → buildShort n edges count places scratch ≡ false
-    long-enough g f h = rw (le-ltb (length places) (2 * n) (omega arith), le-ltb (length edges) (2 * count) (omega arith), le-ltb (length scratch) 2048 h) refl
+    pub long-enough : n ≤ length places / 2 → count ≤ length edges / 2 → 512 ≤ length scratch → buildShort n edges count places scratch ≡ false
+    long-enough g f h = rw (le-ltb (length places) (2 * n) (omega arith), le-ltb (length edges) (2 * count) (omega arith), le-ltb (length scratch) 512 h) refl
 
     -- what is left after 1
     pub left-short : buildShort n edges count places scratch ≡ true
@@ -84,7 +63,7 @@ module _ (n : ℕ) (edges : List ℕ) (count : ℕ) where
         let r = refused-here (1 when buildShort n edges count places scratch) (hierarchyChecks n edges count) h in
         rw (r, h) (refl, (refl, refl))
 
-    module _ (h : buildShort n edges count places scratch ≡ false) (scratch′ : List ℕ) (wiped : scratch′ ≡ over (replicate 2048 0) scratch) where
+    module _ (h : buildShort n edges count places scratch ≡ false) (scratch′ : List ℕ) (wiped : scratch′ ≡ over (replicate 512 0) scratch) where
       -- after another refusal
       pub left-refused : (k : ℕ) → k ≡ numberOf (refusal (hierarchyChecks n edges count)) → (k ≡ 0 → ⊥)
           → (refused k ≡ buildStep n edges count places scratch .answer)

@@ -19,20 +19,20 @@ pub record BuildResult : Type 0 where
   pub places : List ℕ
   pub scratch : List ℕ
 
--- 1: a lent buffer is shorter than needed, which is 2n interval places, two numbers an edge, and 2,048 bytes of scratch
+-- 1: a lent buffer is shorter than needed, which is 2n interval places, two numbers an edge, and 512 bytes of scratch
 abbrev pub buildShort : ℕ → List ℕ → ℕ → List ℕ → List ℕ → Bool
 buildShort n edges edgeCount places scratch =
-    ltb (length places) (2 * n) || ltb (length edges) (2 * edgeCount) || ltb (length scratch) 2048
+    ltb (length places) (2 * n) || ltb (length edges) (2 * edgeCount) || ltb (length scratch) 512
 
 -- building looks at 1 and 5 to 9
 abbrev pub buildRefusal : ℕ → List ℕ → ℕ → List ℕ → List ℕ → Option ℕ
 buildRefusal n edges edgeCount places scratch =
     refusal (1 when buildShort n edges edgeCount places scratch ∷ hierarchyChecks n edges edgeCount)
 
--- scratch is unchanged after refusal 1; after any other end, refused or not, its first 2,048 bytes are zero
+-- scratch is unchanged after refusal 1; after any other end, refused or not, its first 512 bytes are zero
 abbrev pub scratchAfter : (short : Bool) → List ℕ → List ℕ
 scratchAfter true scratch = scratch
-scratchAfter false scratch = over (replicate 2048 0) scratch
+scratchAfter false scratch = over (replicate 512 0) scratch
 
 -- building: its answer, the interval places and the scratch after it
 unfoldable pub buildStep : ℕ → List ℕ → ℕ → List ℕ → List ℕ → BuildResult

@@ -4,7 +4,7 @@ ghost use mathlib.Core.List.{List, [], _∷_, _++_};
 ghost use mathlib.Core.Bool.{true, false};
 ghost use Prim.Native.Nat.{ℕ, _+_, _*_, _/_, _<_, _≤_, min, max};
 ghost use lib.ListN.{length, getD, take, replicate};
-ghost use Rattle.lists.specs.Lists.{over, Went, zeros};
+ghost use Rattle.lists.specs.Lists.{Went, zeros};
 ghost use Rattle.hierarchy.specs.Hierarchy.{edgesOf};
 ghost use Rattle.intervals.specs.Numbering.{at as walkAt, walk as walked, numbering};
 ghost use Rattle.intervals.specs.Intervals.{intervalTable};
@@ -13,8 +13,8 @@ ghost use Rattle.intervals.specs.Cover.{intervalAt, callInterval, oneMor
 ghost use Rattle.hierarchy.specs.Inner.{Edges};
 ghost use Rattle.intervals.specs.Inner.{Ready, Fresh, isBetter, improved, turnAt, Kept, Settled, Best, lows, highs, tableWeight, orMost, doubled, Writable};
 
-// Building is lent 2,048 bytes.
-pub const SCRATCH: usize = 2048;
+// Building is lent 512 bytes.
+pub const SCRATCH: usize = 512;
 
 // What building answers.
 pub enum BuildAnswer {
@@ -221,14 +221,6 @@ fn write_intervals(n: usize, edges: &[u16], edge_count: usize, numbers: &[u16], 
     settle(edges, edge_count, table);
 }
 
-// Zeroes the part of the scratch that building may use.
-fn wipe(scratch: &mut [u8])
-    requires { ⌜ 2048 ≤ length (now scratch) ⌝ }
-    ensures { λ _. ⌜ now (scratch .exit) ≡ over (replicate 2048 0) (now (scratch .entry)) ⌝ }
-{
-    hierarchy::clear(&mut scratch[..SCRATCH]);
-}
-
 // Builds the intervals of n nodes.
 pub fn build(
     n: usize,
@@ -252,13 +244,13 @@ pub fn build(
     }
     let refusal = hierarchy::refused(n, edges, edge_count);
     if refusal != 0 {
-        wipe(scratch);
+        hierarchy::clear_first(SCRATCH, scratch);
         return BuildAnswer::Refused(refusal);
     }
     let mut numbers = [0u16; hierarchy::NODES];
     number(edges, edge_count, &mut scratch[..n], &mut numbers[..n]);
     write_intervals(n, edges, edge_count, &numbers, &mut places[..2 * n]);
-    wipe(scratch);
+    hierarchy::clear_first(SCRATCH, scratch);
     BuildAnswer::Built
 }
 

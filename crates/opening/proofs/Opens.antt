@@ -106,12 +106,12 @@ module _ (n : ℕ) (edges : List ℕ) (count total : ℕ) (places : List ℕ) wh
       by false = refl
 
   -- else building decides
-  module _ (scratch : List ℕ) (few : n ≤ 256) (all : length edges ≡ 2 * count) (many : 512 ≤ length places) (long : 2048 ≤ length scratch) where
+  module _ (scratch : List ℕ) (few : n ≤ 256) (all : length edges ≡ 2 * count) (many : 512 ≤ length places) (long : 512 ≤ length scratch) where
     judged : buildRefusal n edges count places scratch ≡ refusal (hierarchyChecks n edges count)
     judged =
         let a : ltb (length places) (2 * n) ≡ false = le-ltb (length places) (2 * n) (omega arith) in
         let b : ltb (length edges) (2 * count) ≡ false = le-ltb (length edges) (2 * count) (omega arith) in
-        let c : ltb (length scratch) 2048 ≡ false = le-ltb (length scratch) 2048 long in
+        let c : ltb (length scratch) 512 ≡ false = le-ltb (length scratch) 512 long in
         refused-later (1 when buildShort n edges count places scratch) _ (rw (a, b, c) refl)
 
     module _ (a : BuildAnswer) {places′ : List ℕ}

@@ -12,12 +12,13 @@ use Rattle.lists.specs.Lists.{over}
 use Rattle.lists.specs.Answer.{Answer, done, refused, _when_, refusal, numberOf, answerOf, roomAfter}
 use Rattle.lists.proofs.Bools.{not-both, or-left, or-right}
 use Rattle.lists.proofs.Refusals.{refused-here, refused-later}
+use Rattle.lists.proofs.Parts.{zeroed}
 use Rattle.hierarchy.specs.Hierarchy.{edgesOf, hierarchyChecks, sizeWrong, Legal}
 use Rattle.intervals.specs.Numbering.{numbering}
 use Rattle.intervals.specs.Intervals.{intervalTable}
 use Rattle.intervals.specs.Build.{buildStep, numbersShort, numbersStep}
 use Rattle.hierarchy.proofs.Legals.{promised}
-use Rattle.intervals.proofs.Builds.{zeroed, room-short, room-refused, room-done, room-alone}
+use Rattle.intervals.proofs.Builds.{room-short, room-refused, room-done, room-alone}
 use Rattle.intervals.proofs.Extremes.{numbering-long}
 use Rattle.reach_sets.specs.Sets.{setTable}
 use Rattle.reach_sets.specs.Plain.{setsShort, setsStep, plainShort, plainStep}
@@ -158,8 +159,8 @@ module _ (n : ℕ) (edges : List ℕ) (count : ℕ) (places : List ℕ) where
   room-built legal places′ e = (ap (λ (o : Option ℕ). answerOf o tt) (sym legal), e ∙ ap (λ (o : Option ℕ). roomAfter o table places) (sym legal))
 
 -- WITH ENOUGH SCRATCH FOR EACH the plain engine answers what building answers, and leaves the same in the interval places
-pub plain-agrees : (n : ℕ) (edges : List ℕ) (count : ℕ) (places scratch words : List ℕ) → 2048 ≤ length scratch → 1024 ≤ length words
+pub plain-agrees : (n : ℕ) (edges : List ℕ) (count : ℕ) (places scratch words : List ℕ) → 512 ≤ length scratch → 1024 ≤ length words
     → (plainStep n edges count places words .answer ≡ buildStep n edges count places scratch .answer)
     × (plainStep n edges count places words .places ≡ buildStep n edges count places scratch .places)
 unfolding plainStep buildStep
-plain-agrees n edges count places scratch words h k = rw (le-ltb (length scratch) 2048 h, le-ltb (length words) 1024 k) (refl, refl)
+plain-agrees n edges count places scratch words h k = rw (le-ltb (length scratch) 512 h, le-ltb (length words) 1024 k) (refl, refl)

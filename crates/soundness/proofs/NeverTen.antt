@@ -1,11 +1,11 @@
 -- THEOREM: over a built hierarchy no step of any list is refused with 10, and the list leaves a sound desk. Assumes nothing.
 use mathlib.Core.Path.{_≡_, refl, sym, ap, _∙_}
 use mathlib.Core.List.{List, [], _∷_}
-use mathlib.Core.Bool.{Bool, true, false, not, _&&_, _||_, and-true}
+use mathlib.Core.Bool.{Bool, true, false, not, _||_}
 use mathlib.Core.Option.{Option, none, some}
 use Prim.Native.Nat.{ℕ, _*_, _<_}
 use native.Mathlib.Omega.{arith}
-use lib.Dec.{eqb, ltb}
+use lib.Dec.{ltb}
 use lib.ListN.{length, getD, take}
 use borrow.Author.Tests.{ltb-true, ltb-false, le-ltb, le-leb}
 use Rattle.lists.specs.Lists.{anyBelow, any}
@@ -13,8 +13,8 @@ use Rattle.lists.specs.Answer.{Check, _when_, refusal}
 use Rattle.hierarchy.specs.Hierarchy.{edgesOf}
 use Rattle.intervals.specs.Intervals.{lowOf, highOf}
 use Rattle.intervals.specs.Cover.{lowAt, highAt}
-use Rattle.lists.proofs.Bools.{bool, not-both, both-ways, or-left, or-right, or-neither}
-use Rattle.lists.proofs.Refusals.{refused-here, refused-later}
+use Rattle.lists.proofs.Bools.{bool, not-both, both-ways, or-left, or-neither}
+use Rattle.lists.proofs.Refusals.{refused-here}
 use Rattle.lists.proofs.Bounded.{all-at, all-of, none-of}
 use Rattle.hierarchy.proofs.Legals.{promised}
 use Rattle.interval_laws.proofs.Laws.{built-low, built-high, interval-real, interval-inside-root, taken}
@@ -42,7 +42,7 @@ use Rattle.soundness.proofs.Named.{every-of}
 use Rattle.history.proofs.Results.{stepsFor, results-run}
 use Rattle.soundness.specs.Refused.{isRefusal, refusedWith}
 use Rattle.soundness.proofs.Laws.{unchanged-get, unchanged-put, unchanged-add, fresh-sound}
-use Rattle.soundness.proofs.Numbers.{isNumber, holdsWith, not-refused}
+use Rattle.lists.proofs.Numbers.{isNumber, holdsWith, not-refused}
 use Rattle.soundness.proofs.Orderly.{Shaped}
 use Rattle.soundness.proofs.Kept.{fresh-shaped, enter-shaped, get-shaped, put-shaped, add-shaped, leave-shaped, enter-sound, leave-sound}
 

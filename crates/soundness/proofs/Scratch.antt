@@ -1,18 +1,19 @@
 -- THEOREMS: what get, put and add leave in their scratch, by their answer alone (02, point 6). Assumes nothing.
 use mathlib.Core.Path.{_≡_, refl, ap, _∙_}
 use mathlib.Core.List.{List}
-use mathlib.Core.Bool.{Bool, true, false, _||_}
+use mathlib.Core.Bool.{Bool, false, _||_}
 use mathlib.Core.Option.{Option, none, some}
 use Prim.Native.Nat.{ℕ}
 use lib.ListN.{getD, replicate}
 use Rattle.lists.specs.Lists.{over, any}
-use Rattle.lists.specs.Answer.{Answer, done, refused, Check, refusal}
+use Rattle.lists.specs.Answer.{refused, Check, refusal}
 use Rattle.lists.proofs.Bools.{bool}
 use Rattle.lists.proofs.Refusals.{refused-here}
 use Rattle.locks.specs.Lent.{Hierarchy, tablesShort}
 use Rattle.desk.specs.declared.Desk.{Desk}
 use Rattle.desk.specs.Steps.{valuesShort, valueChecks, searchAfter, scratchLeft, getOwn, getUnless, getStep, putOwn, putUnless, putStep, sum64, addOwn, addStep}
-use Rattle.soundness.proofs.Numbers.{holdsWith, decides, get-turned-away, put-turned-away}
+use Rattle.lists.proofs.Numbers.{holdsWith, decides}
+use Rattle.soundness.proofs.Numbers.{get-turned-away, put-turned-away}
 
 module _ (H : Hierarchy) (d : Desk) (party node : ℕ) (values scratch : List ℕ) where
   -- what is lent is too short

@@ -1,5 +1,5 @@
 -- THEOREMS: a visit sees just the reach of the records that it named, over any tables and any desk (02, point 6). Assumes nothing.
-use mathlib.Core.Path.{_≡_, refl, sym, ap, _∙_}
+use mathlib.Core.Path.{_≡_, refl, ap, _∙_}
 use mathlib.Core.List.{List, [], _∷_}
 use mathlib.Core.Bool.{Bool, true, false, not, _&&_}
 use mathlib.Core.Option.{Option, none, some}
@@ -7,15 +7,15 @@ use Prim.Native.Nat.{ℕ, _≤_, _<_}
 use native.Mathlib.Omega.{arith}
 use lib.Dec.{leb, ltb}
 use lib.ListN.{length, getD}
-use borrow.Author.Tests.{ne-eqb, lt-ltb, ltb-true, leb-true, not-true, not-false}
+use borrow.Author.Tests.{ne-eqb, lt-ltb, leb-true, not-true}
 use Rattle.lists.specs.Lists.{any, every}
-use Rattle.lists.specs.Answer.{Answer, done, refused, Check, _when_, refusal}
+use Rattle.lists.specs.Answer.{done, refused, Check, _when_, refusal}
 use Rattle.lists.proofs.Bools.{bool, not-both, and-left, and-right}
 use Rattle.lists.proofs.Bounded.{all-at}
-use Rattle.lists.proofs.Refusals.{refusal-none, refused-here, refused-later}
+use Rattle.lists.proofs.Refusals.{refusal-none, refused-here}
 use Rattle.lists.proofs.Members.{In}
 use Rattle.lists.proofs.Distinct.{any-in}
-use Rattle.hierarchy.specs.Hierarchy.{edgesOf, someEdge, edgeWrong, Edge, Reach, flagged, reach, inReach}
+use Rattle.hierarchy.specs.Hierarchy.{edgesOf, edgeWrong, Edge, Reach, flagged, reach, inReach}
 use Rattle.hierarchy.proofs.Legals.{no-edge, right-edge}
 use Rattle.hierarchy.proofs.Reaches.{reach-all, reach-only}
 use Rattle.naming.specs.Names.{rises, ascending, namesOf, named}
@@ -28,13 +28,14 @@ use Rattle.locks.specs.Lent.{Hierarchy, keepsNames, lockFor, inNamed}
 use Rattle.parties.proofs.Clauses.{clauses}
 use Rattle.desk.specs.declared.Desk.{Desk}
 use Rattle.desk.specs.Desks.{stageAt}
-use Rattle.desk.specs.Steps.{stepChecks, StepFacts, nodeChecks, valuesShort, valueChecks, scratchLeft, getOwn, getUnless, getStep, putOwn, putUnless, putStep, sum64, addOwn, addStep}
+use Rattle.desk.specs.Steps.{stepChecks, StepFacts, nodeChecks, valuesShort, valueChecks, scratchLeft, getOwn, getStep, putOwn, putStep, sum64, addOwn, addStep}
 use Rattle.desk.proofs.Facts.{step-facts, holder-of}
 use Rattle.history.proofs.Facts.{touch}
 use Rattle.history.proofs.Nested.{any-found, flag-one, holder-names}
 use Rattle.history.proofs.Modes.{get-none, put-none}
 use Rattle.soundness.proofs.Named.{ascending-any, named-names}
-use Rattle.soundness.proofs.Numbers.{holdsWith, decides, passed, onward, get-turned-away, put-turned-away}
+use Rattle.lists.proofs.Numbers.{holdsWith, decides, passed, onward}
+use Rattle.soundness.proofs.Numbers.{get-turned-away, put-turned-away}
 
 -- A CALL KEEPS WHAT IT WAS GIVEN: a node is in the reach of a name kept exactly when it is in the reach of a name given
 pub kept-reach : (H : Hierarchy) (mode : Mode) (given : List ℕ) → length given ≤ 8 → (n : ℕ) (es : List ℕ) (node : ℕ)

@@ -57,6 +57,7 @@ use Rattle.needless_laws.specs.Visits.{OneEach}
 use Rattle.lists.proofs.Marks.{zero-at}
 use Rattle.lists.proofs.Members.{In}
 use Rattle.interval_laws.proofs.Laws as laws
+use Rattle.interval_laws.proofs.Scratch as building
 use Rattle.intervals.proofs.Bounds as bounds-laws
 use Rattle.intervals.proofs.Covers as closest-laws
 use Rattle.interval_laws.proofs.Covers as cover-laws
@@ -487,7 +488,7 @@ results-sound H places scratch b values sized made c =
 
 -- 02, POINT 2. THE PLAIN ENGINE's intervals are the desk's: with enough scratch for each, it answers what building answers and leaves the same in the interval
 -- places, on every input
-plain-agrees : (n : ℕ) (edges : List ℕ) (edgeCount : ℕ) (places scratch words : List ℕ) → 2048 ≤ length scratch → 1024 ≤ length words
+plain-agrees : (n : ℕ) (edges : List ℕ) (edgeCount : ℕ) (places scratch words : List ℕ) → 512 ≤ length scratch → 1024 ≤ length words
     → ((plainStep n edges edgeCount places words) .answer ≡ (buildStep n edges edgeCount places scratch) .answer)
     × ((plainStep n edges edgeCount places words) .places ≡ (buildStep n edges edgeCount places scratch) .places)
 plain-agrees = plain.plain-agrees
@@ -776,6 +777,28 @@ add-scratch : (H : Hierarchy) (d : Desk) (party node number : ℕ) (values scrat
 add-scratch H d party node number values scratch = (used.add-scratch-one H d party node values scratch number, used.add-scratch-other H d party node values scratch number)
 
 -- demand 3 above lends each step of a list scratch of any length and contents (`Call`, runs/specs/Run)
+
+-- 02, POINT 7. BUILDING IN A QUARTER OF THE SCRATCH. Fewer than 512 bytes get 1, with all that is lent as it was,
+build-few : (n : ℕ) (edges : List ℕ) (edgeCount : ℕ) (places scratch : List ℕ) → length scratch < 512
+    → let b = buildStep n edges edgeCount places scratch in (b .answer ≡ refused 1) × (b .places ≡ places) × (b .scratch ≡ scratch)
+build-few = building.build-few
+
+-- 512 are enough: a legal hierarchy, with its edges and 2n places lent in full, is built, with the intervals of the definition,
+build-enough : (n : ℕ) (edges : List ℕ) (edgeCount : ℕ) (places scratch : List ℕ) → 512 ≤ length scratch → 2 * n ≤ length places → 2 * edgeCount ≤ length edges
+    → Legal n edges edgeCount
+    → let b = buildStep n edges edgeCount places scratch in (b .answer ≡ done tt) × (take (2 * n) (b .places) ≡ intervalTable n (edgesOf edges edgeCount))
+build-enough = building.build-enough
+
+-- and whatever is lent besides, answer and interval places are the same with any scratch of 512 bytes or more, 2,048 among them
+scratch-unasked : (n : ℕ) (edges : List ℕ) (edgeCount : ℕ) (places scratch scratch′ : List ℕ) → 512 ≤ length scratch → 512 ≤ length scratch′
+    → ((buildStep n edges edgeCount places scratch) .answer ≡ (buildStep n edges edgeCount places scratch′) .answer)
+    × ((buildStep n edges edgeCount places scratch) .places ≡ (buildStep n edges edgeCount places scratch′) .places)
+scratch-unasked = building.scratch-unasked
+
+-- 01's rule for scratch: after refusal 1 it is unchanged, after any other end, refused or not, its first 512 bytes are zero and the rest unchanged
+build-scratch : (n : ℕ) (edges : List ℕ) (edgeCount : ℕ) (places scratch : List ℕ) → let b = buildStep n edges edgeCount places scratch in
+    (b .answer ≡ refused 1 → b .scratch ≡ scratch) × ((b .answer ≡ refused 1 → ⊥) → b .scratch ≡ over (replicate 512 0) scratch)
+build-scratch n edges edgeCount places scratch = (building.build-scratch-one n edges edgeCount places scratch, building.build-scratch-other n edges edgeCount places scratch)
 
 -- THE STARRED CASES, with the papers' figures, those of {8}, of the ninth case and of the listing as document 02's points 1 and 4 have them: each passes, by computation. Table T and
 -- the table of the ninth case

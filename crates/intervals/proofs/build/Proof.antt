@@ -12,9 +12,10 @@ use Rattle.intervals.specs.Intervals.{intervalTable}
 use Rattle.intervals.specs.Numbering.{numbering}
 use Rattle.intervals.specs.Build.{buildShort}
 use Rattle.lists.proofs.Loops.{lent}
+use Rattle.lists.proofs.Parts.{behind, laid, zeroed, enough-cleared}
 use Rattle.hierarchy.proofs.Legals.{Promise, promised}
 use Rattle.intervals.proofs.Writes.{legal-edges}
-use Rattle.intervals.proofs.Builds.{behind, laid, zeroed, legal-of, short-places, short-edges, short-scratch, long-enough, left-short, left-refused, left-built}
+use Rattle.intervals.proofs.Builds.{legal-of, short-places, short-edges, short-scratch, long-enough, left-short, left-refused, left-built}
 use borrow.Author.Needs.{needs}
 use Rattle.intervals.proofs.build.Statement.{statement}
 use Rattle.intervals.proofs.build.Tie as tie
@@ -88,13 +89,13 @@ module _ (c : tie.After-number) where
       ∙ c .number .ensures
       ∙ ap (λ (m : ℕ). numbering m (es judged)) (marks-long right)
 
-  room : 2048 ≤ length marked
+  room : 512 ≤ length marked
   room = omega (arith, length-front (scratch judged) (c .number .last .1 .1 .0) (n judged) (c .number .kept .1 .1 .0), judged .before .if3 .left)
 
-  wiped : over (replicate 2048 0) marked ≡ over (replicate 2048 0) (scratch judged)
+  wiped : over (replicate 512 0) marked ≡ over (replicate 512 0) (scratch judged)
   wiped =
-      zeroed 2048 marked (scratch judged)
-      (behind 2048 (n judged) (c .number .last .1 .1 .0) (scratch judged) (omega (arith, promise right .few)) (omega (arith, promise right .few, judged .before .if3 .left)) (c .number .kept .1 .1 .0))
+      zeroed 512 marked (scratch judged)
+      (behind 512 (n judged) (c .number .last .1 .1 .0) (scratch judged) (omega (arith, promise right .few)) (omega (arith, promise right .few, judged .before .if3 .left)) (c .number .kept .1 .1 .0))
 
 returns : tie.Need-returns
 returns c = let a = c .before .before .before .before .args in left-short (a .n) (a .edges .now) (a .edge-count) (a .places .now) (a .scratch .now)
@@ -108,12 +109,10 @@ returns-3 : tie.Need-returns-3
 returns-3 c = let a = c .before .before .before .before .before .before .args in left-short (a .n) (a .edges .now) (a .edge-count) (a .places .now) (a .scratch .now)
     (short-scratch (a .n) (a .edges .now) (a .edge-count) (a .places .now) (a .scratch .now) (c .before .before .if1 .left) (c .before .if2 .left) (c .if3 .taken))
 
-wipe-requires : tie.Need-wipe-requires
-wipe-requires c κs = c .before .before .before .if3 .left
-
 returns-4 : tie.Need-returns-4
 returns-4 c = let j = c .before .before .before .before .before in
-    left-refused (n j) (edges j) (count j) (places j) (scratch j) (enough j) (c .before .before .wipe .last .0) (c .before .before .wipe .ensures)
+    left-refused (n j) (edges j) (count j) (places j) (scratch j) (enough j) (c .before .before .clear-first .last .1 .0)
+    (enough-cleared 512 (scratch j) (c .before .before .clear-first .last .1 .0) (j .before .if3 .left) (c .before .before .clear-first .ensures))
     (j .refused .result) (j .refused .ensures) (c .before .before .before .before .if4 .taken)
 
 slice-relend-prefix-number : tie.Need-slice-relend-prefix-number
@@ -144,13 +143,11 @@ write-intervals-requires : tie.Need-write-intervals-requires
 write-intervals-requires c κs = let m = c .before .before .before .before .before in let r = right m in
     record { legal = legal r; whole = whole r; enough = few m; numbered = numbered m; long = table-long r }
 
-wipe-requires-2 : tie.Need-wipe-requires-2
-wipe-requires-2 c κs = room (c .before .before .before .before .before .before .before .before .before)
-
 returns-5 : tie.Need-returns-5
 returns-5 c = let w = c .before .before .before .before .before .before in let m = c .before .before .before .before .before .before .before .before .before .before .before .before in
     let j = judged m in
-    left-built (n j) (edges j) (count j) (places j) (scratch j) (enough j) (c .before .before .wipe2 .last .0) (c .before .before .wipe2 .ensures ∙ wiped m)
+    left-built (n j) (edges j) (count j) (places j) (scratch j) (enough j) (c .before .before .clear-first2 .last .1 .0)
+    (enough-cleared 512 (marked m) (c .before .before .clear-first2 .last .1 .0) (room m) (c .before .before .clear-first2 .ensures) ∙ wiped m)
     (legal (right m)) _
     (laid (2 * n j) (intervalTable (n j) (es j)) (w .write-intervals .last .1 .1 .1 .1 .0) (places j) (w .write-intervals .ensures)
     (omega (arith, j .before .before .before .if1 .left)) (w .write-intervals .kept .1 .1 .1 .1 .0))
@@ -163,7 +160,7 @@ build-spec =
     returns-2
     returns-3
     (λ c κs. search needs)
-    wipe-requires
+    (λ c κs. search needs)
     (λ c. search needs)
     returns-4
     slice-relend-prefix-number
@@ -176,7 +173,7 @@ build-spec =
     (λ c. search needs)
     slice-aggregate-write-intervals-2
     write-intervals-requires
-    wipe-requires-2
+    (λ c κs. search needs)
     (λ c. search needs)
     (λ c. search needs)
     returns-5)

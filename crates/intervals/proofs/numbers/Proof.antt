@@ -7,9 +7,10 @@ use lib.ListN.{length, take, replicate}
 use lib.Seq.{length-take-le}
 use Rattle.hierarchy.specs.Hierarchy.{edgesOf, Legal}
 use Rattle.intervals.specs.Numbering.{numbering}
+use Rattle.lists.proofs.Parts.{laid}
 use Rattle.hierarchy.proofs.Legals.{Promise, promised}
 use Rattle.intervals.proofs.Writes.{legal-edges}
-use Rattle.intervals.proofs.Builds.{laid, legal-of, few-places, few-edges, many-enough, numbers-short, numbers-refused, numbers-done}
+use Rattle.intervals.proofs.Builds.{legal-of, few-places, few-edges, many-enough, numbers-short, numbers-refused, numbers-done}
 use borrow.Author.Needs.{needs}
 use Rattle.intervals.proofs.numbers.Statement.{statement}
 use Rattle.intervals.proofs.numbers.Tie as tie

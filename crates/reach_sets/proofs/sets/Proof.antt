@@ -6,7 +6,8 @@ use native.Mathlib.Omega.{arith}
 use lib.ListN.{length, take}
 use lib.Seq.{length-take-le}
 use Rattle.hierarchy.specs.Hierarchy.{edgesOf, Legal}
-use Rattle.intervals.proofs.Builds.{legal-of, laid}
+use Rattle.lists.proofs.Parts.{laid}
+use Rattle.intervals.proofs.Builds.{legal-of}
 use Rattle.reach_sets.specs.Sets.{setTable}
 use Rattle.reach_sets.proofs.Plains.{few-words, few-edges, many-enough, sets-short, sets-refused, sets-done}
 use borrow.Author.Needs.{needs}

@@ -4,7 +4,7 @@ use Prim.Native.Nat.{ℕ}
 use native.Mathlib.Omega.{arith}
 use lib.ListN.{replicate}
 use lib.Seq.{length-take-le}
-use Rattle.intervals.proofs.Builds.{laid}
+use Rattle.lists.proofs.Parts.{laid}
 use borrow.Author.Needs.{needs}
 use Rattle.reach_sets.proofs.wipe.Statement.{statement}
 use Rattle.reach_sets.proofs.wipe.Tie as tie

@@ -8,7 +8,7 @@ use lib.Seq.{length-take-le}
 use Rattle.hierarchy.specs.Hierarchy.{edgesOf}
 use Rattle.hierarchy.proofs.Legals.{Promise, promised}
 use Rattle.intervals.specs.Intervals.{intervalTable}
-use Rattle.intervals.proofs.Builds.{behind, laid}
+use Rattle.lists.proofs.Parts.{behind, laid}
 use Rattle.intervals.proofs.Extremes.{numbering-long}
 use Rattle.reach_sets.specs.Sets.{setAt}
 use Rattle.reach_sets.proofs.Fills.{table-set}

@@ -1,14 +1,16 @@
 -- `Desk::judge_value` meets its contract: what is too short, then what every step looks at, then what is asked of the node. Assumes nothing.
 use mathlib.Core.Path.{_≡_, refl, sym, ap, _∙_}
 use mathlib.Core.List.{List}
-use mathlib.Core.Bool.{Bool, true, false, _||_}
+use mathlib.Core.Bool.{Bool, false, _||_}
 use Prim.Native.Nat.{ℕ, _≤_}
 use native.Mathlib.Omega.{arith}
 use lib.Dec.{ltb}
 use lib.ListN.{length, take, replicate}
 use borrow.Author.Needs.{needs}
 use borrow.Author.Tests.{ltb-false}
+use Rattle.lists.specs.Lists.{over}
 use Rattle.lists.proofs.Bools.{or-right}
+use Rattle.lists.proofs.Parts.{enough-cleared}
 use Rattle.hierarchy.proofs.Legals.{right-size}
 use Rattle.locks.specs.Lent.{Hierarchy, lent, tablesShort}
 use Rattle.desk.specs.Steps.{searchAfter}
@@ -41,14 +43,15 @@ returns : tie.Need-returns
 returns c = let s = c .before .before .before .before .before in let e = tested (c .before) ∙ c .if1 .taken in
     ((search needs, value-1 (lentTo s) (s .args .self) (s .args .party) (s .args .node) (short s) e), sym (ap (λ (b : Bool). searchAfter b (s .args .scratch .now)) e))
 
-wipe-requires : tie.Need-wipe-requires
-wipe-requires c κs = room (c .before)
+-- the search's bytes are zeros
+cleared : (c : tie.After-clear-first) → c .clear-first .last .1 .0 ≡ over (replicate 256 0) (c .before .before .before .before .before .before .before .args .scratch .now)
+cleared c = enough-cleared 256 _ _ (room (c .before .before)) (c .clear-first .ensures)
 
 -- the scratch after the wiping
-wiped : (c : tie.After-wipe) (scratch : List ℕ) → (let s = c .before .before .before .before .before .before .before in
-    scratch ≡ c .wipe .last .0 → scratch ≡ searchAfter (tablesShort (lentTo s) || short s) (s .args .scratch .now))
+wiped : (c : tie.After-clear-first) (scratch : List ℕ) → (let s = c .before .before .before .before .before .before .before in
+    scratch ≡ c .clear-first .last .1 .0 → scratch ≡ searchAfter (tablesShort (lentTo s) || short s) (s .args .scratch .now))
 wiped c scratch e = let s = c .before .before .before .before .before .before .before in
-    e ∙ c .wipe .ensures ∙ sym (ap (λ (b : Bool). searchAfter b (s .args .scratch .now)) (enough (c .before .before)))
+    e ∙ cleared c ∙ sym (ap (λ (b : Bool). searchAfter b (s .args .scratch .now)) (enough (c .before .before)))
 
 returns-2 : tie.Need-returns-2
 returns-2 c = let j = c .before in let w = j .before .before .before in let s = w .before .before .before .before .before .before .before in (
@@ -60,7 +63,7 @@ judge-node-requires : tie.Need-judge-node-requires
 judge-node-requires c κs = let j = c .before .before in let w = j .before .before .before in let s = w .before .before .before .before .before .before .before in
     let facts = judged-facts (lentTo s) (s .args .self) (s .args .party) (short s) (j .judge .result) (c .before .if2 .left) (j .judge .ensures .1) in
     let front = zero-front (s .args .n) 256 (s .args .scratch .now) (right-size (s .args .n) (facts .sized) .1) (room (w .before .before)) in
-    (omega (arith, ap (λ (l : List ℕ). length l) (w .wipe .ensures), front .0), ap (take (s .args .n)) (w .wipe .ensures) ∙ front .1)
+    (omega (arith, ap (λ (l : List ℕ). length l) (cleared w), front .0), ap (take (s .args .n)) (cleared w) ∙ front .1)
 
 returns-3 : tie.Need-returns-3
 returns-3 c =
@@ -82,7 +85,7 @@ judge-value-spec =
     (tie.spec
     (λ c κs. search needs)
     returns
-    wipe-requires
+    (λ c κs. search needs)
     (λ c κs. search needs)
     (λ c. search needs)
     returns-2
