@@ -3,9 +3,11 @@
 
     compare_building.py CASES [--calls N] [--seed S]
 
-CASES is the program. First come those lines of crates/cases/stdin that build, with what stands beside them in crates/cases/stdout; then random
-ones: legal hierarchies and faulty ones, lent just enough, more, or too little of places, edges or scratch. Every other one builds in the plain way. It
-prints the seed and how often each end was seen, and the first line that differs; it exits 1 where one does, or where an end in WANTED was never seen.
+CASES is the program. First those lines of crates/cases/stdin that build are held to what stands beside them in crates/cases/stdout (`rt ci` holds the
+program to that); then the program is given random ones, N of them: legal hierarchies and faulty ones, lent just enough, more, or too little of places,
+edges or scratch, and every other one to be built in the plain way. Of the words lent to the plain engine three are seen, of all else lent each number.
+It prints the seed and how often each end was seen, and the first line that differs; it exits 1 where one does, or where an end in WANTED was never
+seen, which takes some 600 calls.
 """
 import argparse
 import collections
@@ -30,7 +32,7 @@ TEXT = 65000        # bytes of lines that it takes at a time
 
 def building(n, table, count, places, scratch, need):
     """01, and 02's point 7: the refusal or 0, and the places and the scratch afterwards. It needs 2n places, two numbers an edge and so much scratch. 1 leaves
-    the scratch as it was; any other end leaves zeros where it is needed, and the rest of it."""
+    the scratch as it was; after any other end the part that is needed is zero, and the rest as it was."""
     if len(places) < 2 * n or len(table) < 2 * count or len(scratch) < need:
         return 1, places, scratch
     wiped = [0] * need + scratch[need:]
@@ -44,7 +46,7 @@ def building(n, table, count, places, scratch, need):
 def table_of(after, d):
     """The numbers of a line's edge table: those behind `next d`, and zeros; or edges from each record to each of the next d, round 1 to 255."""
     if d == 0:
-        return (after + [0] * NUMBERS)[:NUMBERS]
+        return [x % 65536 for x in after + [0] * NUMBERS][:NUMBERS]
     edges = ((p, 1 + (p + k) % 255) for p in itertools.cycle(range(256)) for k in range(d))
     return [x for e in itertools.islice(edges, NUMBERS // 2) for x in e]
 
@@ -72,35 +74,38 @@ def one(rnd, plain):
     edges = compare.windows(rnd, n) if n >= 8 and rnd.random() < 0.2 else compare.legal(rnd, n, rnd.choice((3, n, 300)))
     if rnd.random() < 0.3:
         n, edges = compare.spoiled(rnd, n, edges)
-        n = min(n, 257)
+        n = min(n, 257) if rnd.random() < 0.9 else 2 ** 63 + rnd.randrange(3)
     count = len(edges) if rnd.random() < 0.95 else rnd.randrange(len(edges) + 2)
-    places = 2 * n + rnd.choice((0, 0, 0, 0, 1, 2, 4)) - (rnd.random() < 0.05)
+    places = 2 * n + rnd.choice((0, 0, 0, 0, 1, 2, 4)) - (rnd.random() < (0.3 if n > 256 else 0.05))
     numbers = 2 * count + rnd.choice((0, 0, 0, 0, 1, 2)) - (rnd.random() < 0.05)
     need = WORDS if plain else SCRATCH
     scratch = rnd.choice((need, need, need, need + 1, need + 2, need - 1, BYTES - 2, rnd.randrange(BYTES)))
     return (f"{'plain' if plain else 'build'} n {n}, places {max(0, min(PLACES, places))}, numbers {max(0, min(NUMBERS, numbers))}, edges {count}, "
-            f"{'words' if plain else 'scratch'} {scratch}, nodes 0 to {n + 1}; next 0, edges {' '.join(f'{p} {c}' for p, c in edges)}")
+            f"{'words' if plain else 'scratch'} {scratch}, nodes 0 to {min(n, 255) + 3}; next 0, edges {' '.join(f'{p} {c}' for p, c in edges)}")
 
 
 ENDS = ["built", *(f"refused {k}" for k in (1, 5, 6, 7, 8, 9))]
 WANTED = [f"{how} {end}" for how in ("build", "plain") for end in ENDS]
-WANTED += ["511 bytes", "512 bytes", "513 bytes", "2048 bytes", "2048 bytes and refused"]
+WANTED += ["511 bytes", *(f"{k} bytes {end}" for k in (512, 513, 2048) for end in ("built", "refused with 5 to 9", "refused with 1")),
+           "257 records with 513 places", "records past 2 to the 63"]
 
 
 def ends(line, refusal):
-    """Which ends a line shows. 511 bytes count where nothing else is short and the hierarchy is legal, 512 and more where it was built."""
+    """Which ends a line shows. 511 bytes count where nothing else is short and the hierarchy is legal."""
     yield f"{line.split()[0]} refused {refusal}" if refusal else f"{line.split()[0]} built"
     lent = re.search(r"scratch (\d+)", line)
     if lent and lent[1] == "511" and answered(line.replace("scratch 511", "scratch 512"))[1] == 0:
         yield "511 bytes"
-    if lent and lent[1] in ("512", "513", "2048") and refusal == 0:
-        yield f"{lent[1]} bytes"
-    if lent and lent[1] == "2048" and refusal > 1:
-        yield "2048 bytes and refused"
+    if lent and lent[1] in ("512", "513", "2048"):
+        yield f"{lent[1]} bytes " + ("built" if refusal == 0 else "refused with 1" if refusal == 1 else "refused with 5 to 9")
+    if "n 257, places 513," in line:
+        yield "257 records with 513 places"
+    if int(line.split()[2][:-1]) >= 2 ** 63:
+        yield "records past 2 to the 63"
 
 
 def run(program, lines):
-    """What the program writes for these lines, handed over in parts that it takes."""
+    """What the program writes for these lines, handed over in parts small enough for it."""
     out, part = "", ""
     for line in [*lines, None]:
         if part and (line is None or len(part) + len(line) > TEXT):
@@ -132,7 +137,7 @@ def main():
     rnd = random.Random(args.seed)
     crate = os.path.join(HERE, "..", "..", "crates", "cases")
     asked, shown = (open(os.path.join(crate, name)).read().splitlines() for name in ("stdin", "stdout"))
-    builds = [i for i, line in enumerate(asked) if line.split()[0] in ("build", "plain")]
+    builds = [i for i, line in enumerate(asked) if line.startswith(("build", "plain"))]
     if differ("crates/cases/stdout", [asked[i] for i in builds], [shown[i] for i in builds]):
         return 1
     lines = [one(rnd, k % 2 == 1) for k in range(args.calls)]

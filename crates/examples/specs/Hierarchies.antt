@@ -19,6 +19,10 @@ building n edges scratch = numberOf (buildRefusal n edges (length edges / 2) (re
 abbrev pub pair : List ℕ → ℕ → BuildResult
 pair edges scratch = buildStep 2 edges (length edges / 2) (replicate 5 7) (replicate scratch 9)
 
+-- what that is refused with
+abbrev pub pairRefused : List ℕ → ℕ → ℕ
+pairRefused edges scratch = numberOf (buildRefusal 2 edges (length edges / 2) (replicate 5 7) (replicate scratch 9))
+
 -- low and high of a call of these names in table T
 abbrev pub boundsT : List ℕ → List ℕ
 boundsT names = let call = callInterval (intervalTable 10 T) names in call .low ∷ call .high ∷ []
@@ -46,12 +50,18 @@ hierarchies =
     ∷ are ((pair (0 ∷ 1 ∷ []) 511) .scratch) (replicate 511 9)
     ∷ are ((pair (1 ∷ 1 ∷ []) 511) .scratch) (replicate 511 9)
     ∷ are ((buildStep 3 (0 ∷ 1 ∷ 0 ∷ 2 ∷ []) 2 (replicate 5 7) (replicate 2048 9)) .scratch) (replicate 2048 9)
-    -- after another refusal, 5 to 9 (where 1,025 edges are 6), and where it is built, its first 512 bytes are zero, and the rest unchanged
+    -- after another refusal, 5 to 9, and where it is built, its first 512 bytes are zero, and the rest unchanged
+    ∷ is (building 0 [] 512) 5
     ∷ are ((buildStep 0 [] 0 [] (replicate 512 9)) .scratch) (replicate 512 0)
-    ∷ are ((buildStep 2 (replicate 2050 0) 1025 (replicate 5 7) (replicate 514 9)) .scratch) (replicate 512 0 ++ (9 ∷ 9 ∷ []))
+    ∷ is (pairRefused (replicate 2050 0) 514) 6
+    ∷ are ((pair (replicate 2050 0) 514) .scratch) (replicate 512 0 ++ (9 ∷ 9 ∷ []))
+    ∷ is (pairRefused (1 ∷ 1 ∷ []) 514) 7
     ∷ are ((pair (1 ∷ 1 ∷ []) 514) .scratch) (replicate 512 0 ++ (9 ∷ 9 ∷ []))
+    ∷ is (pairRefused (1 ∷ 1 ∷ []) 2048) 7
     ∷ are ((pair (1 ∷ 1 ∷ []) 2048) .scratch) (replicate 512 0 ++ replicate 1536 9)
+    ∷ is (pairRefused (0 ∷ 1 ∷ 0 ∷ 1 ∷ []) 513) 8
     ∷ are ((pair (0 ∷ 1 ∷ 0 ∷ 1 ∷ []) 513) .scratch) (replicate 512 0 ++ (9 ∷ []))
+    ∷ is (pairRefused [] 512) 9
     ∷ are ((pair [] 512) .scratch) (replicate 512 0)
     ∷ are ((pair (0 ∷ 1 ∷ []) 512) .scratch) (replicate 512 0)
     ∷ are ((pair (0 ∷ 1 ∷ []) 513) .scratch) (replicate 512 0 ++ (9 ∷ []))

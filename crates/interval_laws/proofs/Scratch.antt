@@ -1,5 +1,5 @@
--- THEOREMS of the scratch that building is lent (02, point 7): how much is enough, that the intervals do not depend on it, and what it holds after each
--- end. Assumes nothing.
+-- THEOREMS of the scratch that building is lent (02, point 7): how much is enough, that answer and places are the same with any that is enough, and what it
+-- holds after each end. Assumes nothing.
 use mathlib.Core.Path.{_≡_, refl, ap, sym, _∙_}
 use mathlib.Core.List.{List}
 use mathlib.Core.Bool.{Bool, true, false, _||_, or-true}
