@@ -1,19 +1,15 @@
-// The five steps called directly: above all what no block file can show, nine names or none, tables or buffers too short, all that is refused with 1, 5, 6, 7 or 10, what a step
-// leaves in its scratch, and counts of grants at their stop. Standard input has a line for each call; each is written out again with what the desk answers. A line's first letter
-// says what it does. Behind its word stand 22 digits of intervals, 22 of edges and 10 of names, then columns of numbers. Desk and values go on from line to line. Besides the steps there
-// are lines that make the desk by hand, one that shows the values, and one that shows what a listing has after its steps.
+// Enter and leave called directly: above all what no block file can show, nine names or none, tables or a list too short, all that is refused with 1, 5, 6, 7 or 10, and counts of
+// grants at their stop. Standard input has a line for each call; each is written out again with what the desk answers. A line's first letter says what it does. Behind its word stand
+// 22 digits of intervals, 22 of edges and 10 of names, then columns of numbers. The desk goes on from line to line. Besides the two steps there are lines that make the desk by hand,
+// and one that shows what a listing has after its steps. Get, put and add are in `value_cases`.
 ghost use lib.ListN.{length};
 ghost use mathlib.Core.Path.{_≡_};
-ghost use Prim.Native.Nat.{_≤_};
 use arrivals::PARTIES;
-use desk::AddAnswer;
 use desk::Desk;
 use desk::EnterAnswer;
-use desk::GetAnswer;
 use desk::LeaveAnswer;
-use desk::PutAnswer;
 
-// The numbers of a line that every step takes, and those that a step has besides: `given` is what put or add is given, `scratch` how many bytes of a scratch are lent.
+// The numbers of a line that both steps take; how many names or bytes are lent, and of enter the name count and the mode.
 struct Call {
     n: usize,
     places: usize,
@@ -21,10 +17,8 @@ struct Call {
     edge_count: usize,
     party: usize,
     lent: usize,
-    first: usize,
-    second: usize,
-    given: u64,
-    scratch: usize,
+    name_count: usize,
+    mode: usize,
 }
 
 // LINES. The number in a column. Columns are five wide; a number has four digits at most, and a space, or what is behind the end, is 0.
@@ -35,10 +29,8 @@ fn number(line: &[u8], k: usize) -> usize {
     (high + low) as usize
 }
 
-// What a line gives to its call. With a 1 behind it, the number for put or add is so many below the largest, which is the number with all its bits turned.
+// What a line gives to its call.
 fn taken(line: &[u8]) -> Call {
-    let second = number(line, 7);
-    let turned = std::num::wrapping_sub_u64(0, number(line, 8) as u64);
     Call {
         n: number(line, 0),
         places: number(line, 1),
@@ -46,10 +38,8 @@ fn taken(line: &[u8]) -> Call {
         edge_count: number(line, 3),
         party: number(line, 4),
         lent: number(line, 5),
-        first: number(line, 6),
-        second,
-        given: turned ^ second as u64,
-        scratch: part(number(line, 9), 256, 300),
+        name_count: number(line, 6),
+        mode: number(line, 7),
     }
 }
 
@@ -71,49 +61,23 @@ fn table(line: &[u8], part: usize, count: usize) -> [u16; 2050]
 fn entered(answer: EnterAnswer, waiting: usize) {
     match answer {
         EnterAnswer::Waits => say(0, waiting as u64),
-        EnterAnswer::Refused(k) => say(2, k as u64),
-        EnterAnswer::Granted(cover) => say(3, cover as u64),
-    }
-}
-
-// What get answered; 14 is the number of waiting.
-fn got(answer: GetAnswer) {
-    match answer {
-        GetAnswer::Refused(k) => say(2, k as u64),
-        GetAnswer::Waiting => say(4, 14),
-        GetAnswer::Value(v) => say(5, v),
-    }
-}
-
-// What put answered; with stored goes the number that was given.
-fn stored(answer: PutAnswer, given: u64) {
-    match answer {
-        PutAnswer::Stored => say(1, given),
-        PutAnswer::Refused(k) => say(2, k as u64),
-    }
-}
-
-// What add answered; with added goes the number that was given.
-fn added(answer: AddAnswer, given: u64) {
-    match answer {
-        AddAnswer::Added => say(7, given),
-        AddAnswer::Refused(k) => say(2, k as u64),
+        EnterAnswer::Refused(k) => say(1, k as u64),
+        EnterAnswer::Granted(cover) => say(2, cover as u64),
     }
 }
 
 // What leave answered: the count of the granted.
 fn left(answer: LeaveAnswer) {
     match answer {
-        LeaveAnswer::Refused(k) => say(2, k as u64),
-        LeaveAnswer::Left(count) => say(6, count as u64),
+        LeaveAnswer::Refused(k) => say(1, k as u64),
+        LeaveAnswer::Left(count) => say(3, count as u64),
     }
 }
 
 // Says an answer: its word, then its number.
 fn say(word: usize, number: u64) {
-    let words =
-        *b":   waits :  stored : refused : granted : waiting :   value :    left :   added : scratch ";
-    let at = word % 9 * 10;
+    let words = *b":   waits : refused : granted :    left ";
+    let at = word % 4 * 10;
     let end = at + 10;
     io::write_all(1, &words[at..end]);
     io::print_decimal(1, number);
@@ -129,34 +93,11 @@ fn say_list(list: &[u8; 34]) {
     }
 }
 
-// How many a line lends of those that there are, as many as usual where it does not say.
-fn part(asked: usize, usual: usize, all: usize) -> usize
-    ensures { λ r. ⌜ r ≤ all ⌝ }
-{
-    if asked == 0 {
-        return octets::least(usual, all);
-    }
-    octets::least(asked, all)
-}
-
-// Says how many of the bytes that were lent of a scratch are not 0.
-fn say_scratch(scratch: &[u8; 300], lent: usize) {
-    let mut count = 0;
-    let mut i = 0;
-    while i < lent {
-        if octets::byte(scratch, i) != 0 {
-            count += 1;
-        }
-        i += 1;
-    }
-    say(8, count);
-}
-
 // STEPS. Enters, with so many names lent, a name count and a mode: 1 reading, 3 adding, any other writing.
 fn enter(line: &[u8], c: Call, desk: Desk, intervals: &[u16], edges: &[u16]) -> Desk {
     let lent = c.lent % 11;
     let names = table(line, 2, lent);
-    let mode = locks::mode_when(c.second == 1, c.second != 3);
+    let mode = locks::mode_when(c.mode == 1, c.mode != 3);
     let step = desk.enter(
         c.n,
         intervals,
@@ -165,74 +106,12 @@ fn enter(line: &[u8], c: Call, desk: Desk, intervals: &[u16], edges: &[u16]) -> 
         c.party,
         mode,
         &names[0..lent],
-        c.first,
+        c.name_count,
     );
     let answer = step.answer;
     let next = step.desk;
     entered(answer, next.waiting);
     next
-}
-
-// Gets the value of a node. As for put and add, so many bytes are lent of a scratch that holds 7 everywhere, and what is left in them is said behind the answer.
-fn get(c: Call, desk: Desk, intervals: &[u16], edges: &[u16], values: &[u64]) -> Desk {
-    let mut scratch = [7u8; 300];
-    let lent = c.scratch % 301;
-    let step = desk.get(
-        c.n,
-        intervals,
-        edges,
-        c.edge_count,
-        c.party,
-        c.first,
-        values,
-        &mut scratch[0..lent],
-    );
-    let answer = step.answer;
-    got(answer);
-    say_scratch(&scratch, lent);
-    step.desk
-}
-
-// Puts a number at a node.
-fn put(c: Call, desk: Desk, intervals: &[u16], edges: &[u16], values: &mut [u64]) -> Desk {
-    let mut scratch = [7u8; 300];
-    let lent = c.scratch % 301;
-    let step = desk.put(
-        c.n,
-        intervals,
-        edges,
-        c.edge_count,
-        c.party,
-        c.first,
-        c.given,
-        values,
-        &mut scratch[0..lent],
-    );
-    let answer = step.answer;
-    stored(answer, c.given);
-    say_scratch(&scratch, lent);
-    step.desk
-}
-
-// Adds a number at a node.
-fn add(c: Call, desk: Desk, intervals: &[u16], edges: &[u16], values: &mut [u64]) -> Desk {
-    let mut scratch = [7u8; 300];
-    let lent = c.scratch % 301;
-    let step = desk.add(
-        c.n,
-        intervals,
-        edges,
-        c.edge_count,
-        c.party,
-        c.first,
-        c.given,
-        values,
-        &mut scratch[0..lent],
-    );
-    let answer = step.answer;
-    added(answer, c.given);
-    say_scratch(&scratch, lent);
-    step.desk
 }
 
 // Leaves, with so many bytes lent of a list that holds 9 everywhere; says the list, then the count of the granted.
@@ -274,16 +153,6 @@ fn counts(c: Call, desk: Desk) -> Desk {
     d
 }
 
-// Says the values that are lent.
-fn say_values(values: &[u64]) {
-    let mut i = 0;
-    while i < values.len() {
-        io::write_all(1, b" ");
-        io::print_decimal(1, values[i]);
-        i += 1;
-    }
-}
-
 // Says the lines that a listing has after its steps, behind the end of this one: holders, waiters and grants, and each party's grants. They are shorter than 800 bytes.
 fn show(desk: Desk) -> Desk {
     let mut text = [b'\n'; 800];
@@ -293,61 +162,38 @@ fn show(desk: Desk) -> Desk {
 }
 
 // ALL LINES. The desk as a line leaves it, with so much of the tables lent.
-fn perform(
-    line: &[u8],
-    c: Call,
-    desk: Desk,
-    intervals: &[u16],
-    edges: &[u16],
-    values: &mut [u64],
-) -> Desk {
+fn perform(line: &[u8], c: Call, desk: Desk, intervals: &[u16], edges: &[u16]) -> Desk {
     match octets::byte(line, 0) {
         b'e' => enter(line, c, desk, intervals, edges),
-        b'g' => get(c, desk, intervals, edges, values),
-        b'p' => put(c, desk, intervals, edges, values),
-        b'a' => add(c, desk, intervals, edges, values),
         b'l' => leave(c, desk, intervals, edges),
         b'd' => by_hand(c, desk),
         b'c' => counts(c, desk),
-        b'v' => {
-            say_values(values);
-            desk
-        }
         b's' => show(desk),
         b'f' => Desk::fresh(),
         _ => desk,
     }
 }
 
-// The same, with the tables made and so many of the values.
-fn answer(line: &[u8], desk: Desk, values: &mut [u64]) -> Desk {
+// The same, with the tables made.
+fn answer(line: &[u8], desk: Desk) -> Desk {
     let c = taken(line);
     let places = c.places % 2051;
     let intervals = table(line, 0, places);
     let ends = c.ends % 2051;
     let edges = table(line, 1, ends);
-    let lent = part(c.lent, 10, values.len());
-    perform(
-        line,
-        c,
-        desk,
-        &intervals[0..places],
-        &edges[0..ends],
-        &mut values[0..lent],
-    )
+    perform(line, c, desk, &intervals[0..places], &edges[0..ends])
 }
 
 // Each line is written out, then what it asks for is done.
 fn run(text: &[u8]) {
     let mut desk = Desk::fresh();
-    let mut values = [0u64; 257];
     let mut at = 0;
     while at < text.len() {
         let end = bytes::scan::find(text, at, text.len(), 10);
         let line = &text[at..end];
         at = end + 1;
         io::write_all(1, line);
-        desk = answer(line, desk, &mut values);
+        desk = answer(line, desk);
         io::write_all(1, b"\n");
     }
 }

@@ -1,5 +1,5 @@
 -- Visits that name one node: each party's lock, held or waited for, has the interval of its one name. What keeps this. Assumes nothing.
-use mathlib.Core.Path.{_≡_, sym, ap, _∙_}
+use mathlib.Core.Path.{_≡_, sym}
 use mathlib.Core.List.{List, [], _∷_}
 use mathlib.Core.Bool.{Bool, true, false, not, _||_}
 use mathlib.Core.Option.{none}
@@ -9,7 +9,7 @@ use lib.ListN.{length, getD, set, take}
 use lib.Seq.{getD-set-same, getD-set-other}
 use borrow.Author.Tests.{eqb-true, eqb-false}
 use Rattle.lists.specs.Lists.{every}
-use Rattle.lists.proofs.Bools.{bool, and-left, and-right}
+use Rattle.lists.proofs.Bools.{bool}
 use Rattle.lists.proofs.Members.{In, in-nil, in-cons}
 use Rattle.lists.proofs.Distinct.{place-in}
 use Rattle.locks.specs.declared.Mode.{Mode}

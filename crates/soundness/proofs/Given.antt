@@ -1,7 +1,7 @@
 -- THEOREM: after any list each hold and each waiting call keeps the names that its party's last enter that was not refused gave, over any tables; so a visit sees just their reach
 -- (02, point 6). Assumes nothing.
 use mathlib.Core.Path.{_≡_, refl, sym, ap, _∙_, subst}
-use mathlib.Core.List.{List, [], _∷_, _++_}
+use mathlib.Core.List.{List, [], _∷_}
 use mathlib.Core.Bool.{Bool, true, false, not, cond, _&&_, _||_, and-false}
 use mathlib.Core.Option.{Option, none, some}
 use Prim.Native.Nat.{ℕ, zero, suc, _≤_}
@@ -14,7 +14,6 @@ use Rattle.lists.proofs.Members.{In}
 use Rattle.hierarchy.specs.Hierarchy.{edgesOf, Reach}
 use Rattle.naming.specs.declared.Names.{Names}
 use Rattle.naming.specs.Names.{ascending, namesOf, named}
-use Rattle.locks.specs.declared.Mode.{Mode}
 use Rattle.locks.specs.declared.Lock.{Lock}
 use Rattle.locks.specs.declared.Stage.{Stage}
 use Rattle.locks.specs.declared.Stage.the-variants.{Out, Waiting, Holding}
@@ -27,7 +26,7 @@ use Rattle.desk.specs.Desks.{stageAt, queueOf}
 use Rattle.desk.specs.Steps.{free, enterRefusal, enterIf, enterUnless, enterStep, getStep, putStep, addStep, leaveRefusal, leaveUnless, leaveStep}
 use Rattle.runs.specs.Run.{lend, Call, enter, get, put, add, leave, Step, lentTo, State, start, Moved, afterEnter, afterGet, afterPut, afterAdd, afterLeave, moveCall, move, alsoRan, run}
 use Rattle.history.proofs.Facts.{all-out}
-use Rattle.soundness.specs.Given.{isEntered, givenAfter, givenIn, Keeps}
+use Rattle.soundness.specs.Given.{givenAfter, givenIn, Keeps}
 use Rattle.soundness.proofs.Named.{ascending-in, in-ascending, named-names}
 use Rattle.soundness.proofs.Seen.{Sees, Blind, get-sees, put-sees, add-sees, get-sixteen, put-sixteen, add-sixteen}
 use Rattle.soundness.proofs.Laws.{unchanged-get, unchanged-put, unchanged-add}

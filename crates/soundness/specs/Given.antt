@@ -5,9 +5,8 @@ use mathlib.Core.Path.{_≡_}
 use Prim.Native.Nat.{ℕ}
 use lib.Dec.{eqb}
 use lib.ListN.{take}
-use Rattle.lists.specs.Answer.{Answer, done, refused}
+use Rattle.lists.specs.Answer.{done, refused}
 use Rattle.naming.specs.Names.{ascending, named}
-use Rattle.locks.specs.declared.Lock.{Lock}
 use Rattle.locks.specs.declared.Stage.{Stage}
 use Rattle.locks.specs.declared.Stage.the-variants.{Out, Waiting, Holding}
 use Rattle.runs.specs.Run.{Call, enter, get, put, add, leave, Step, Event, entered, got, stored, added, left, State, move}

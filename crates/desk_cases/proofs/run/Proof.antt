@@ -1,16 +1,15 @@
--- `run` is safe and ends: each line's end lies behind its start, and the values keep their count. Assumes nothing.
+-- `run` is safe and ends: each line's end lies behind its start. Assumes nothing.
 use Prim.Native.Nat.{_-_}
-use mathlib.Core.Path.{_≡_}
 use lib.ListN.{length}
 use borrow.Author.Needs.{needs}
 use Rattle.desk_cases.proofs.run.Statement.{statement}
 use Rattle.desk_cases.proofs.run.Tie as tie
 
 abbrev Inv-loop : tie.InvT-loop
-Inv-loop text desk₀ values₀ at₀ t7 desk values at = 257 ≡ length values
+Inv-loop text desk₀ at₀ t6 desk at = Unit {0}
 
 abbrev μ-loop : tie.MeasureT-loop
-μ-loop text desk₀ values₀ at₀ t7 desk values at = length text - at
+μ-loop text desk₀ at₀ t6 desk at = length text - at
 
 pub run-spec : {M : Type 1} → statement M
 run-spec =
@@ -19,17 +18,16 @@ run-spec =
     Inv-loop
     μ-loop
     (λ c κs. search needs)
-    (λ c. search needs)
+    (λ c. tt)
     (λ c κs. search needs)
     (λ c. search needs)
     (λ c. search needs)
     (λ c. search needs)
     (λ c. search needs)
     (λ c κs. search needs)
-    (λ c. search needs)
     (λ c κs. search needs)
     (λ c. search needs)
     (λ c κs. search needs)
     (λ c. search needs)
-    (λ c. search needs)
+    (λ c. tt)
     (λ c. search needs))

@@ -2,8 +2,8 @@
 use Prim.Native.Nat.{_-_}
 use lib.ListN.{length}
 use borrow.Author.Needs.{needs}
-use Rattle.desk_cases.proofs.say_values.Statement.{statement}
-use Rattle.desk_cases.proofs.say_values.Tie as tie
+use Rattle.value_cases.proofs.say_values.Statement.{statement}
+use Rattle.value_cases.proofs.say_values.Tie as tie
 
 abbrev Inv-loop : tie.InvT-loop
 Inv-loop values i₀ t4 i = Unit {0}

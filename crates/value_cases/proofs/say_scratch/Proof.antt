@@ -3,8 +3,8 @@ use mathlib.Core.Logic.{⊎-elim}
 use Prim.Native.Nat.{_-_, _≤_}
 use native.Mathlib.Omega.{arith}
 use borrow.Author.Needs.{needs}
-use Rattle.desk_cases.proofs.say_scratch.Statement.{statement}
-use Rattle.desk_cases.proofs.say_scratch.Tie as tie
+use Rattle.value_cases.proofs.say_scratch.Statement.{statement}
+use Rattle.value_cases.proofs.say_scratch.Tie as tie
 
 abbrev Inv-loop : tie.InvT-loop
 Inv-loop scratch lent count₀ i₀ count i = count ≤ i
