@@ -1,5 +1,5 @@
 -- Which holders there are after a step, and what an unrefused get, put or add knows. Assumes nothing.
-use mathlib.Core.Path.{_≡_, refl, sym, ap, _∙_}
+use mathlib.Core.Path.{_≡_, refl, sym, ap, _∙_, subst}
 use mathlib.Core.Logic.{_⊎_, inl, inr, _≢_}
 use mathlib.Core.List.{List, [], _∷_, _++_, map}
 use mathlib.Core.Bool.{Bool, true, false, not, _&&_, _||_, or-true, true≢false, and-comm}
@@ -50,6 +50,20 @@ holder-below [] q h e = absurd (let z : _≡_ {A = ℕ} 0 1 = cc in omega arith)
 holder-below (y ∷ es) zero h e = omega arith
 holder-below (y ∷ es) (suc q) h e = let i : q < length es = holder-below es q h e in omega arith
 
+-- what holds of a party's stage holds after a store, where it holds of what is stored if that is the party's
+pub stage-by : (Q : Stage → Type 0) (es : List Entry) (q p : ℕ) (x : Stage) → (q ≡ p → Q x) → Q (stageIn es p) → Q (stageIn (set es q (entryOf x)) p)
+stage-by Q [] q p x f g = g
+stage-by Q (e ∷ es) zero zero x f g = f refl
+stage-by Q (e ∷ es) zero (suc p) x f g = g
+stage-by Q (e ∷ es) (suc q) zero x f g = g
+stage-by Q (e ∷ es) (suc q) (suc p) x f g = stage-by Q es q p x (λ i. f (ap suc i)) g
+
+-- and at the party stored, where it holds of what is stored and of a party that is out
+pub stage-own : (Q : Stage → Type 0) (es : List Entry) (q : ℕ) (x : Stage) → Q x → Q Out → Q (stageIn (set es q (entryOf x)) q)
+stage-own Q [] q x f g = g
+stage-own Q (e ∷ es) zero x f g = f
+stage-own Q (e ∷ es) (suc q) x f g = stage-own Q es q x f g
+
 pub all-out : (n q : ℕ) → stageIn (replicate n (entryOf Out)) q ≡ Out
 all-out zero q = refl
 all-out (suc n) zero = refl
@@ -93,6 +107,26 @@ unfolding sweep
 sweep-length [] s = refl
 sweep-length (q ∷ qs) s =
     sweep-length qs (offer s q) ∙ offer-by (λ t. length (t .entries) ≡ length (s .entries)) s q refl (λ l. length-set (s .entries) q (entryOf (Holding l)))
+
+-- what holds of a party's stage holds after a turn of the pass, and after the pass, where it goes over from waiting for a lock to holding it
+module _ (Q : Stage → Type 0) (up : (l : Lock) → Q (Waiting l) → Q (Holding l)) (p : ℕ) where
+  offer-stage : (s : Sweep) (q : ℕ) → Q (stageIn (s .entries) p) → Q (stageIn ((offer s q) .entries) p)
+  unfolding offer
+  offer-stage s q k = by (stageIn (s .entries) q) refl
+    where
+      test : (b : Bool) (l : Lock) → stageIn (s .entries) q ≡ Waiting l → Q (stageIn ((offerIf b s q l) .entries) p)
+      test true l e = stage-by Q (s .entries) q p (Holding l) (λ i. up l (subst Q (ap (stageIn (s .entries)) (sym i) ∙ e) k)) k
+      test false l e = k
+
+      by : (x : Stage) → stageIn (s .entries) q ≡ x → Q (stageIn ((offerTo s q x) .entries) p)
+      by Out e = k
+      by (Waiting l) e = test (not (meetsHolder (s .entries) l || meetsWaiter (s .entries) (s .stay) l)) l e
+      by (Holding l) e = k
+
+  pub sweep-stage : (qs : List ℕ) (s : Sweep) → Q (stageIn (s .entries) p) → Q (stageIn ((sweep s qs) .entries) p)
+  unfolding sweep
+  sweep-stage [] s k = k
+  sweep-stage (q ∷ qs) s k = sweep-stage qs (offer s q) (offer-stage s q k)
 
 -- a holder after the pass was granted in it, or held before
 pub sweep-holds : (p : ℕ) (h : Lock) (qs : List ℕ) (s : Sweep) → stageIn (sweep s qs .entries) p ≡ Holding h

@@ -2,17 +2,18 @@
 -- Assumes nothing.
 use mathlib.Core.Path.{_≡_, refl, sym, ap, _∙_}
 use mathlib.Core.List.{List, [], _∷_, _++_}
-use mathlib.Core.Bool.{Bool, true, false, not, _&&_, true≢false}
+use mathlib.Core.Bool.{true, _&&_}
 use Prim.Native.Nat.{ℕ, _*_, _≤_, _<_}
 use native.Mathlib.Omega.{arith}
 use lib.Dec.{eqb, leb, ltb}
 use lib.ListN.{length, getD, take, length-take}
 use lib.Seq.{take-append-seam, take-take, length-take-le}
 use borrow.Author.Tests.{eqb-false, not-true, ltb-true, leb-true, le-leb}
-use Rattle.lists.specs.Lists.{any, every}
-use Rattle.lists.proofs.Bools.{bool, and-left, and-right, and-both}
+use Rattle.lists.specs.Lists.{every}
+use Rattle.lists.proofs.Bools.{and-left, and-right, and-both}
 use Rattle.lists.proofs.Bounded.{all-at}
-use Rattle.lists.proofs.Members.{In, head, tail}
+use Rattle.lists.proofs.Members.{In}
+use Rattle.lists.proofs.Distinct.{any-found, every-in}
 use Rattle.hierarchy.specs.Hierarchy.{edgesOf, flagged, reach, inReach}
 use Rattle.intervals.specs.Intervals.{lowOf, highOf}
 use Rattle.intervals.specs.Cover.{lowAt, highAt}
@@ -30,19 +31,6 @@ use Rattle.runs.specs.Run.{Lending, whole, part, lend, Step, lentTo}
 use Rattle.runs.proofs.Lends.{low-lent, high-lent}
 use Rattle.history.specs.Serial.{Built}
 use Rattle.history.proofs.Facts.{Touch}
-
--- LISTS. What holds of some element holds of one that is found,
-pub any-found : (p : ℕ → Bool) (xs : List ℕ) → any p xs ≡ true → (x : ℕ) × In x xs × (p x ≡ true)
-unfolding any
-any-found p [] e = absurd (true≢false (sym e))
-any-found p (y ∷ xs) e =
-    bool (p y) (λ h. (y, head, h)) (λ h. let (x, i, q) = any-found p xs (rw h at e) in (x, tail i, q))
-
--- and what holds of every element of each
-pub every-in : (p : ℕ → Bool) {x : ℕ} {xs : List ℕ} → every p xs ≡ true → In x xs → p x ≡ true
-unfolding every
-every-in p {xs = y ∷ ys} e head = and-left (p y) (every p ys) e
-every-in p {xs = y ∷ ys} e (tail i) = every-in p (and-right (p y) (every p ys) e) i
 
 -- THE HIERARCHY: two numbers for each node and each edge, and intervals that lie one inside the other along reach
 pub record Nested (H : Hierarchy) : Type 0 where

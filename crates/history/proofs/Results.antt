@@ -42,11 +42,11 @@ use Rattle.history.proofs.Nested.{built-nested}
 use Rattle.history.proofs.Serializable.{serializable}
 
 -- BUFFERS. How one was lent of a table
-abbrev lending : List ℕ → List ℕ → Lending
+abbrev pub lending : List ℕ → List ℕ → Lending
 lending table buffer = part (length buffer) (drop (length table) buffer)
 
 -- the table itself, and anything behind it
-lend-all : (t b : List ℕ) → take (length t) b ≡ t → lend t (lending t b) ≡ b
+pub lend-all : (t b : List ℕ) → take (length t) b ≡ t → lend t (lending t b) ≡ b
 unfolding lend
 lend-all t b e =
     ap (λ (x : List ℕ). take (length b) (x ++ drop (length t) b)) (sym e) ∙ ap (take (length b)) (take-append-drop (length t) b) ∙ take-length b
@@ -213,7 +213,7 @@ module _ (K K′ : Hierarchy) (alike : Alike K K′) (d : Desk) (party : ℕ) wh
       changes-alike = changes-by (either-by alike lent-of)
 
 -- A CALL as a step of a list
-callFor : List ℕ → Result → Call
+unfoldable pub callFor : List ℕ → Result → Call
 callFor values (entering party mode names nameCount r) = enter party mode names nameCount
 callFor values (getting party node buffer scratch r used) = get party node (lending values buffer) scratch
 callFor values (putting party node value buffer scratch r after used) = put party node value (lending values buffer) scratch
@@ -233,15 +233,15 @@ pub stepsFor : Hierarchy → List ℕ → List Made → List Step
 stepsFor H values [] = []
 stepsFor H values (m ∷ ms) = stepFor H values m ∷ stepsFor H (valuesFrom values (m .result)) ms
 
-abbrev between : Hierarchy → Desk → List ℕ → State
+abbrev pub between : Hierarchy → Desk → List ℕ → State
 between H d values = record { hierarchy = H; desk = d; values = values }
 
 -- two steps over a hierarchy are one where desk, values and event are
-moved-alike : (H : Hierarchy) {d d′ : Desk} {values values′ : List ℕ} {event event′ : Event ℕ} → d ≡ d′ → values ≡ values′ → event ≡ event′
+pub moved-alike : (H : Hierarchy) {d d′ : Desk} {values values′ : List ℕ} {event event′ : Event ℕ} → d ≡ d′ → values ≡ values′ → event ≡ event′
     → _≡_ {A = Moved} (record { state = between H d values; event = event }) (record { state = between H d′ values′; event = event′ })
 moved-alike H e v t = rw (e, v, t) refl
 
-left-alike : (party : ℕ) {list list′ : List ℕ} {a a′ : Answer ℕ} → list ≡ list′ → a ≡ a′ → _≡_ {A = Event ℕ} (left party (listed list a)) (left party (listed list′ a′))
+pub left-alike : (party : ℕ) {list list′ : List ℕ} {a a′ : Answer ℕ} → list ≡ list′ → a ≡ a′ → _≡_ {A = Event ℕ} (left party (listed list a)) (left party (listed list′ a′))
 left-alike party l e = rw (l, e) refl
 
 -- one call that meets its contract is that step

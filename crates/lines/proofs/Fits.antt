@@ -8,7 +8,7 @@ use native.Mathlib.Nat.{pow-zero, pow-suc}
 use native.Mathlib.Omega.{arith}
 use lib.Dec.{eqb, leb}
 use lib.ListN.{length, take, drop, length-append}
-use Rattle.lists.proofs.Loops.{keep-few}
+use Rattle.lists.proofs.Loops.{count-most, keep-few}
 use Rattle.lists.proofs.Marks.{zero-at}
 use Rattle.grants.proofs.Counts.{sum-most}
 use Rattle.lists.specs.Lists.{every, keptIf, keep, sum, Below}
@@ -24,7 +24,7 @@ use Rattle.locks.specs.Lent.{Hierarchy}
 use Rattle.runs.specs.Run.{State, Ran, alsoRan, run}
 use Rattle.replay.specs.Replay.{StepAnswer, answerIn, answersOf, eachRecord, recordList, stepRecords, sizeOf, edgeTable, edgeCountOf, builtOf}
 use Rattle.replay.specs.Replay.{startOf, performStep, performAll, isHolding, holdersAt, fileRun, runUnless, runRecords, fileUnless, runFile}
-use Rattle.replay.proofs.Records.{records-length, count-most}
+use Rattle.replay.proofs.Records.{records-length}
 use Rattle.opening.proofs.Opens.{records-whole}
 use Rattle.texts.specs.Text.{decimal, space, newline, answerText, refusedWord, endWord, partyWord}
 use Rattle.texts.specs.Lines.{stepLine, stepLines, endLine, partyLine, lineIfGranted, partyLines, endLines, listing}

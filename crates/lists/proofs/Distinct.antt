@@ -8,8 +8,8 @@ use native.Mathlib.Omega.{arith}
 use lib.Dec.{eqb}
 use lib.ListN.{length, getD}
 use borrow.Author.Tests.{eqb-true, eqb-false, ne-eqb, not-true}
-use Rattle.lists.specs.Lists.{allBelow, anyBelow, any, keep}
-use Rattle.lists.proofs.Bools.{bool, not-both}
+use Rattle.lists.specs.Lists.{allBelow, anyBelow, every, any, keep}
+use Rattle.lists.proofs.Bools.{bool, not-both, and-left, and-right, and-both, or-either}
 use Rattle.lists.proofs.Members.{In, head, tail, in-nil, in-cons, kept-in}
 
 -- two tests that agree at each number
@@ -36,6 +36,24 @@ pub any-in : (p : ℕ → Bool) {x : ℕ} {xs : List ℕ} → In x xs → p x �
 unfolding any
 any-in p head e = rw e
 any-in p (tail {d = y} i) e = rw (any-in p i e) (or-true (p y))
+
+-- and where it holds at some, at a member that is found
+pub any-found : (p : ℕ → Bool) (xs : List ℕ) → any p xs ≡ true → (x : ℕ) × In x xs × (p x ≡ true)
+unfolding any
+any-found p [] e = not-both false e refl
+any-found p (x ∷ xs) e = or-either (p x) (any p xs) e (λ t. (x, head, t)) (λ t. let (y, i, q) = any-found p xs t in (y, tail i, q))
+
+-- where it holds at every element it holds at each member,
+pub every-in : (p : ℕ → Bool) {x : ℕ} {xs : List ℕ} → every p xs ≡ true → In x xs → p x ≡ true
+unfolding every
+every-in p {xs = y ∷ ys} e head = and-left (p y) (every p ys) e
+every-in p {xs = y ∷ ys} e (tail i) = every-in p (and-right (p y) (every p ys) e) i
+
+-- and the other way round
+pub every-of : (p : ℕ → Bool) (xs : List ℕ) → ((x : ℕ) → In x xs → p x ≡ true) → every p xs ≡ true
+unfolding every
+every-of p [] f = refl
+every-of p (x ∷ xs) f = and-both (p x) (every p xs) (f x head) (every-of p xs (λ y i. f y (tail i)))
 
 -- two tests that agree at each member
 pub any-alike : (p q : ℕ → Bool) (xs : List ℕ) → ((x : ℕ) → In x xs → p x ≡ q x) → any p xs ≡ any q xs

@@ -13,7 +13,7 @@ use native.Mathlib.Omega.{arith}
 use borrow.Author.Fill.{fill-more}
 use lib.ListN.{length, getD, take, drop, set, replicate, length-set, drop-of-length-le, length-map}
 use lib.Seq.{take-suc, drop-cons, drop-length, take-at, length-take-le}
-use Rattle.lists.specs.Lists.{every, any, count, keep, sum}
+use Rattle.lists.specs.Lists.{one, every, any, count, keep, sum}
 use Rattle.lists.proofs.Bools.{bool}
 
 -- the length of an array that is a field, from what owning the struct tells: `search (field-length, needs)`
@@ -76,6 +76,17 @@ module _ (l : List ℕ) (i n : ℕ) {r : ℕ} (inv : n + sum (drop i l) ≡ r) w
   pub sum-end : length l ≤ i → n ≡ r
   unfolding sum
   sum-end h = let e = ap sum (drop-of-length-le l h) in omega (arith, inv, e)
+
+-- one at most
+pub one-most : (b : Bool) → one b ≤ 1
+one-most true = omega arith
+one-most false = omega arith
+
+-- a list has at least as many as are counted
+pub count-most : {A : Type 0} (p : A → Bool) (l : List A) → count p l ≤ length l
+unfolding count
+count-most p [] = omega arith
+count-most p (x ∷ xs) = omega (arith, one-most (p x), count-most p xs)
 
 -- no more are kept than there are
 pub keep-few : {A : Type 0} (p : A → Bool) (l : List A) → length (keep p l) ≤ length l

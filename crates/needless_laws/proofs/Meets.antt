@@ -1,16 +1,16 @@
 -- The reaches of named nodes meet just where those of two of them do. Assumes nothing.
 use mathlib.Core.Path.{_≡_, refl, sym, _∙_}
-use mathlib.Core.List.{List, [], _∷_}
-use mathlib.Core.Bool.{Bool, true, false, _&&_}
+use mathlib.Core.List.{List}
+use mathlib.Core.Bool.{Bool, true, _&&_}
 use Prim.Native.Nat.{ℕ, _<_}
 use native.Mathlib.Omega.{arith}
 use lib.Dec.{ltb}
 use borrow.Author.Tests.{ltb-true, ltb-false}
 use Rattle.lists.specs.Lists.{any}
-use Rattle.lists.proofs.Bools.{bool, not-both, both-ways, and-left, and-right, and-both, or-either}
+use Rattle.lists.proofs.Bools.{bool, not-both, both-ways, and-left, and-right, and-both}
 use Rattle.lists.proofs.Bounded.{any-stop}
-use Rattle.lists.proofs.Members.{In, head, tail}
-use Rattle.lists.proofs.Distinct.{any-some, any-in}
+use Rattle.lists.proofs.Members.{In}
+use Rattle.lists.proofs.Distinct.{any-some, any-in, any-found}
 use Rattle.hierarchy.specs.Hierarchy.{edgesOf, Reach, flagged, reach, inReach, Legal}
 use Rattle.hierarchy.proofs.Reaches.{reach-within}
 use Rattle.hierarchy.proofs.Legals.{promised}
@@ -22,20 +22,11 @@ use Rattle.reach_sets.proofs.Calls.{reach-set}
 use Rattle.needless.specs.Waits.{reachesMeet}
 use Rattle.needless_laws.specs.Visits.{nodesMeet}
 
--- a test that holds at some element holds at a member
-any-member : (p : ℕ → Bool) (xs : List ℕ) → any p xs ≡ true → (x : ℕ) × In x xs × (p x ≡ true)
-unfolding any
-any-member p [] e = not-both false e refl
-any-member p (x ∷ xs) e =
-    or-either (p x) (any p xs) e
-    (λ t. (x, head, t))
-    (λ t. let m = any-member p xs t in (m .0, tail (m .1), m .2))
-
 -- of names that are one node, however often, it is that node's
 any-one : (p : ℕ → Bool) (xs : List ℕ) (x : ℕ) → In x xs → ((r : ℕ) → In r xs → r ≡ x) → any p xs ≡ p x
 any-one p xs x i same =
     both-ways (any p xs) (p x)
-    (λ t. let m = any-member p xs t in rw (same (m .0) (m .1)) at (m .2))
+    (λ t. let m = any-found p xs t in rw (same (m .0) (m .1)) at (m .2))
     (any-in p i)
 
 module _ (n : ℕ) (es : List ℕ) where
@@ -45,14 +36,14 @@ module _ (n : ℕ) (es : List ℕ) where
       both-ways (reachesMeet n es names others) (any (λ a. any (λ b. nodesMeet n es a b) others) names)
       (λ t.
       let (z, h, c) = any-some (λ node. inReach n es names node && inReach n es others node) n t in
-      let (a, i, p) = any-member (λ name. flagged (reach n es name) z) names (and-left (inReach n es names z) (inReach n es others z) c) in
-      let (b, j, q) = any-member (λ name. flagged (reach n es name) z) others (and-right (inReach n es names z) (inReach n es others z) c) in
+      let (a, i, p) = any-found (λ name. flagged (reach n es name) z) names (and-left (inReach n es names z) (inReach n es others z) c) in
+      let (b, j, q) = any-found (λ name. flagged (reach n es name) z) others (and-right (inReach n es names z) (inReach n es others z) c) in
       any-in (λ a. any (λ b. nodesMeet n es a b) others) i
       (any-in (λ b. nodesMeet n es a b) j
       (any-stop (λ node. flagged (reach n es a) node && flagged (reach n es b) node) n z h (and-both (flagged (reach n es a) z) (flagged (reach n es b) z) p q))))
       (λ t.
-      let (a, i, c) = any-member (λ a. any (λ b. nodesMeet n es a b) others) names t in
-      let (b, j, d) = any-member (λ b. nodesMeet n es a b) others c in
+      let (a, i, c) = any-found (λ a. any (λ b. nodesMeet n es a b) others) names t in
+      let (b, j, d) = any-found (λ b. nodesMeet n es a b) others c in
       let (z, h, e) = any-some (λ node. flagged (reach n es a) node && flagged (reach n es b) node) n d in
       any-stop (λ node. inReach n es names node && inReach n es others node) n z h
       (and-both (inReach n es names z) (inReach n es others z)
@@ -97,8 +88,8 @@ module _ (n : ℕ) (table : List ℕ) (edgeCount : ℕ) (legal : Legal n table e
   meet-reach names others below below′ = (
     λ t.
         let (z, h, e) = any-some (λ node. inReach n ways names node && inReach n ways others node) n t in
-        let (a, i, p) = any-member (λ name. flagged (reach n ways name) z) names (and-left (inReach n ways names z) (inReach n ways others z) e) in
-        let (b, j, q) = any-member (λ name. flagged (reach n ways name) z) others (and-right (inReach n ways names z) (inReach n ways others z) e) in
+        let (a, i, p) = any-found (λ name. flagged (reach n ways name) z) names (and-left (inReach n ways names z) (inReach n ways others z) e) in
+        let (b, j, q) = any-found (λ name. flagged (reach n ways name) z) others (and-right (inReach n ways names z) (inReach n ways others z) e) in
         (a, b, z, i, j, reached-flag a z (below a i) p, reached-flag b z (below′ b j) q),
     λ m.
         let (a, b, z, i, j, v, w) = m in

@@ -11,13 +11,12 @@ use borrow.Author.Tests.{eqb-true, eqb-false}
 use Rattle.lists.specs.Lists.{every}
 use Rattle.lists.proofs.Bools.{bool}
 use Rattle.lists.proofs.Members.{In, in-nil, in-cons}
-use Rattle.lists.proofs.Distinct.{place-in}
+use Rattle.lists.proofs.Distinct.{every-in, place-in}
 use Rattle.locks.specs.declared.Mode.{Mode}
 use Rattle.locks.specs.declared.Lock.{Lock}
 use Rattle.locks.specs.declared.Stage.{Stage}
 use Rattle.locks.specs.declared.Stage.the-variants.{Out, Waiting, Holding}
 use Rattle.locks.specs.Lent.{Hierarchy, lowIn, highIn, lockFor}
-use Rattle.history.proofs.Nested.{every-in}
 use Rattle.parties.specs.declared.Entry.{Entry}
 use Rattle.parties.specs.Parties.{entryOf, stageIn, meetsHolder, meetsWaiter}
 use Rattle.sweeps.specs.Sweeps.{Sweep, offerIf, offerTo, offer, sweep}

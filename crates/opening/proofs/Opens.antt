@@ -17,6 +17,7 @@ use Rattle.intervals.specs.declared.BuildAnswer.{BuildAnswer}
 use Rattle.intervals.specs.declared.BuildAnswer.the-variants.{Built, Refused as BuildRefused}
 use Rattle.intervals.specs.Build.{buildShort, buildRefusal, buildStep, buildMeaning}
 use Rattle.lists.proofs.Bools.{bool}
+use Rattle.lists.proofs.Loops.{count-most}
 use Rattle.lists.proofs.Refusals.{refused-here, refused-later, refusal-none}
 use Rattle.hierarchy.proofs.Legals.{right-size}
 use Rattle.interval_laws.proofs.Laws.{built-length}
@@ -32,7 +33,7 @@ use Rattle.replay.specs.Replay.{performAll, runUnless, runRecords, fileUnless, 
 use Rattle.replay.specs.declared.EdgesAnswer.{EdgesAnswer}
 use Rattle.replay.specs.declared.EdgesAnswer.the-variants.{Edges, Refused as EdgesRefused}
 use Rattle.replay.specs.Answers.{edgesRefusal, edgesInto, edgesMeaning, EdgesInto}
-use Rattle.replay.proofs.Records.{records-length, edge-table-length, count-most}
+use Rattle.replay.proofs.Records.{records-length, edge-table-length}
 use Rattle.opening.specs.declared.OpenAnswer.{OpenAnswer}
 use Rattle.opening.specs.declared.OpenAnswer.the-variants.{Opened, Refused}
 use Rattle.opening.specs.Opening.{fileRows, builtChecks, openShort, openRefusal, Opening, openingOf, openingIn, openFile, openMeaning, Opens, openedRun}

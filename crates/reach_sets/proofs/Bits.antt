@@ -12,6 +12,7 @@ use lib.ListN.{length}
 use borrow.Author.Tests.{eqb-true, eqb-false, ltb-true, ltb-false}
 use Rattle.lists.specs.Lists.{one}
 use Rattle.lists.proofs.Bools.{bool}
+use Rattle.lists.proofs.Loops.{one-most}
 use Rattle.hierarchy.specs.Hierarchy.{flagged}
 use Rattle.reach_sets.specs.Sets.{bit, wordOf}
 
@@ -138,10 +139,6 @@ low false w = omega arith
 high : (b : Bool) (w : ℕ) → (one b + 2 * w) / 2 ≡ w
 high true w = omega arith
 high false w = omega arith
-
-one-most : (b : Bool) → one b ≤ 1
-one-most true = omega arith
-one-most false = omega arith
 
 -- a bit of it is 1 where the flag stands
 pub word-bit : (flags : List ℕ) (i : ℕ) → bit (wordOf flags) i ≡ one (flagged flags i)

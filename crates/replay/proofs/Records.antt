@@ -156,14 +156,3 @@ module _ (rs : List (List ℕ)) (table : List ℕ) where
       → EdgesInto (Edges (edgeCountOf rs)) table′ (edgesInto rs table)
   unfolding edgesInto refusal
   edges-done table′ e t = rw (short-is false e) (refl, t)
-
--- one at most
-pub one-most : (b : Bool) → one b ≤ 1
-one-most true = omega arith
-one-most false = omega arith
-
--- a list has at least as many as are counted
-pub count-most : {A : Type 0} (p : A → Bool) (l : List A) → count p l ≤ length l
-unfolding count
-count-most p [] = omega arith
-count-most p (x ∷ xs) = omega (arith, one-most (p x), count-most p xs)

@@ -2,9 +2,9 @@
 -- (02, point 6). Assumes nothing.
 use mathlib.Core.Path.{_≡_, refl, sym, ap, _∙_, subst}
 use mathlib.Core.List.{List, [], _∷_}
-use mathlib.Core.Bool.{Bool, true, false, not, cond, _&&_, _||_, and-false}
+use mathlib.Core.Bool.{Bool, true, false, not, cond, _&&_, and-false}
 use mathlib.Core.Option.{Option, none, some}
-use Prim.Native.Nat.{ℕ, zero, suc, _≤_}
+use Prim.Native.Nat.{ℕ, _≤_}
 use lib.Dec.{eqb}
 use lib.ListN.{length, set, take}
 use borrow.Author.Tests.{eqb-true, eqb-false}
@@ -18,51 +18,16 @@ use Rattle.locks.specs.declared.Lock.{Lock}
 use Rattle.locks.specs.declared.Stage.{Stage}
 use Rattle.locks.specs.declared.Stage.the-variants.{Out, Waiting, Holding}
 use Rattle.locks.specs.Lent.{Hierarchy, lockFor}
-use Rattle.parties.specs.declared.Entry.{Entry}
-use Rattle.parties.specs.Parties.{entryOf, stageIn, meetsHolder, meetsWaiter}
-use Rattle.sweeps.specs.Sweeps.{Sweep, offerIf, offerTo, offer, sweep}
+use Rattle.parties.specs.Parties.{entryOf, stageIn}
 use Rattle.desk.specs.declared.Desk.{Desk}
 use Rattle.desk.specs.Desks.{stageAt, queueOf}
 use Rattle.desk.specs.Steps.{free, enterRefusal, enterIf, enterUnless, enterStep, getStep, putStep, addStep, leaveRefusal, leaveUnless, leaveStep}
 use Rattle.runs.specs.Run.{lend, Call, enter, get, put, add, leave, Step, lentTo, State, start, Moved, afterEnter, afterGet, afterPut, afterAdd, afterLeave, moveCall, move, alsoRan, run}
-use Rattle.history.proofs.Facts.{all-out}
+use Rattle.history.proofs.Facts.{all-out, stage-by, stage-own, sweep-stage}
 use Rattle.soundness.specs.Given.{givenAfter, givenIn, Keeps}
 use Rattle.soundness.proofs.Named.{ascending-in, in-ascending, named-names}
 use Rattle.soundness.proofs.Seen.{Sees, Blind, get-sees, put-sees, add-sees, get-sixteen, put-sixteen, add-sixteen}
 use Rattle.soundness.proofs.Laws.{unchanged-get, unchanged-put, unchanged-add}
-
--- A STAGE after a store: at a party, and at the party stored
-stage-by : (Q : Stage → Type 0) (es : List Entry) (q p : ℕ) (x : Stage) → (q ≡ p → Q x) → Q (stageIn es p) → Q (stageIn (set es q (entryOf x)) p)
-stage-by Q [] q p x f g = g
-stage-by Q (e ∷ es) zero zero x f g = f refl
-stage-by Q (e ∷ es) zero (suc p) x f g = g
-stage-by Q (e ∷ es) (suc q) zero x f g = g
-stage-by Q (e ∷ es) (suc q) (suc p) x f g = stage-by Q es q p x (λ i. f (ap suc i)) g
-
-stage-own : (Q : Stage → Type 0) (es : List Entry) (q : ℕ) (x : Stage) → Q x → Q Out → Q (stageIn (set es q (entryOf x)) q)
-stage-own Q [] q x f g = g
-stage-own Q (e ∷ es) zero x f g = f
-stage-own Q (e ∷ es) (suc q) x f g = stage-own Q es q x f g
-
--- A LEAVE'S PASS. One waiter is taken: what it waited for it holds
-offer-keeps : (given : List ℕ) (p : ℕ) (s : Sweep) (q : ℕ) → Keeps given (stageIn (s .entries) p) → Keeps given (stageIn ((offer s q) .entries) p)
-unfolding offer
-offer-keeps given p s q k = by (stageIn (s .entries) q) refl
-  where
-    test : (b : Bool) (l : Lock) → stageIn (s .entries) q ≡ Waiting l → Keeps given (stageIn ((offerIf b s q l) .entries) p)
-    test true l e = stage-by (Keeps given) (s .entries) q p (Holding l) (λ i. subst (Keeps given) (ap (stageIn (s .entries)) (sym i) ∙ e) k) k
-    test false l e = k
-
-    by : (x : Stage) → stageIn (s .entries) q ≡ x → Keeps given (stageIn ((offerTo s q x) .entries) p)
-    by Out e = k
-    by (Waiting l) e = test (not (meetsHolder (s .entries) l || meetsWaiter (s .entries) (s .stay) l)) l e
-    by (Holding l) e = k
-
--- all are
-sweep-keeps : (given : List ℕ) (p : ℕ) (qs : List ℕ) (s : Sweep) → Keeps given (stageIn (s .entries) p) → Keeps given (stageIn ((sweep s qs) .entries) p)
-unfolding sweep
-sweep-keeps given p [] s k = k
-sweep-keeps given p (q ∷ qs) s k = sweep-keeps given p qs (offer s q) (offer-keeps given p s q k)
 
 -- ONE STEP keeps it, with the names as they are after it
 module _ (p : ℕ) (s : State) (given : List ℕ) (k : Keeps given (stageAt (s .desk) p)) where
@@ -102,7 +67,8 @@ module _ (p : ℕ) (s : State) (given : List ℕ) (k : Keeps given (stageAt (s .
       by : (o : Option ℕ) → Keeps given (stageAt ((leaveUnless o (s .desk) q list) .desk) p)
       by (some j) = k
       by none =
-          sweep-keeps given p (keep (λ other. not (eqb other q)) (queueOf (s .desk))) (record { entries = set (s .desk .entries) q (entryOf Out); stay = []; granted = [] })
+          sweep-stage (Keeps given) (λ l k. k) p (keep (λ other. not (eqb other q)) (queueOf (s .desk)))
+          (record { entries = set (s .desk .entries) q (entryOf Out); stay = []; granted = [] })
           (stage-by (Keeps given) (s .desk .entries) q p Out (λ i. tt) k)
 
 run-keeps : (p : ℕ) (steps : List Step) (s : State) (given : List ℕ) → Keeps given (stageAt (s .desk) p)

@@ -18,7 +18,7 @@ use Rattle.lists.proofs.Bools.{bool, not-both, or-left}
 use Rattle.lists.proofs.Refusals.{refusal-none}
 use Rattle.lists.proofs.Bounded.{any-stop, any-none, none-of}
 use Rattle.lists.proofs.Members.{In}
-use Rattle.lists.proofs.Distinct.{any-some, any-in, in-front, in-between, distinct-between}
+use Rattle.lists.proofs.Distinct.{any-some, any-in, every-of, in-front, in-between, distinct-between}
 use Rattle.hierarchy.proofs.Legals.{right-size}
 use Rattle.intervals.proofs.Covers.{closest-below}
 use Rattle.locks.specs.declared.Mode.{Mode}
@@ -41,7 +41,7 @@ use Rattle.desk.specs.Steps.{leaveOwn, enterOwn, free, grantTo, queueLast, ente
 use Rattle.desk.specs.Steps.{enterStep, getStep, putStep, addStep, afterLeaving, leaveWith, leaveRefusal, leaveUnless, leaveStep}
 use Rattle.desk.proofs.Facts.{step-own, step-facts}
 use Rattle.history.proofs.Facts.{sweep-length}
-use Rattle.soundness.proofs.Named.{every-of, ascending-rises, ascending-some, ascending-in, named-names}
+use Rattle.soundness.proofs.Named.{ascending-rises, ascending-some, ascending-in, named-names}
 use Rattle.soundness.proofs.Covers.{enter-some, enter-few, enter-nodes, enter-covers}
 use Rattle.soundness.proofs.Laws.{unchanged-get, unchanged-put, unchanged-add}
 use Rattle.soundness.proofs.Orderly.{Shaped, Reads, Orderly, HeldUp, sound-reads, sound-orderly, sound-held, made-sound}
@@ -99,7 +99,7 @@ cover-below : (H : Hierarchy) (names : List ℕ) → sizeWrong (H .n) ≡ false 
 cover-below H names sized = closest-below (H .intervals) (callInterval (H .intervals) names) (H .n) (right-size (H .n) sized .0)
 
 -- ENTER, of a party that is out, with a lock that may be held
-is-out : (x : Stage) → isOut x ≡ true → x ≡ Out
+pub is-out : (x : Stage) → isOut x ≡ true → x ≡ Out
 is-out Out e = refl
 is-out (Waiting l) e = not-both true refl (sym e)
 is-out (Holding l) e = not-both true refl (sym e)

@@ -7,18 +7,11 @@ use native.Mathlib.Omega.{arith}
 use lib.Dec.{eqb, ltb}
 use lib.ListN.{length}
 use borrow.Author.Tests.{lt-ltb, ltb-false, eqb-true, eqb-false, eq-eqb}
-use Rattle.lists.specs.Lists.{any, every}
-use Rattle.lists.proofs.Bools.{bool, and-left, and-right, and-both}
+use Rattle.lists.specs.Lists.{any}
+use Rattle.lists.proofs.Bools.{bool, and-left, and-right}
 use Rattle.lists.proofs.Members.{In, head, tail, in-nil, in-cons}
-use Rattle.lists.proofs.Distinct.{any-in}
-use Rattle.history.proofs.Nested.{any-found}
+use Rattle.lists.proofs.Distinct.{any-in, any-found}
 use Rattle.naming.specs.Names.{placed, insert, insertAll, ascending, risesFrom, rises, namesOf, named}
-
--- what holds of each element holds of all
-pub every-of : (p : ℕ → Bool) (xs : List ℕ) → ((x : ℕ) → In x xs → p x ≡ true) → every p xs ≡ true
-unfolding every
-every-of p [] f = refl
-every-of p (x ∷ xs) f = and-both (p x) (every p xs) (f x head) (every-of p xs (λ y i. f y (tail i)))
 
 rises-in : (y x : ℕ) (l : List ℕ) → y < x → risesFrom y l ≡ true → risesFrom y (insert x l) ≡ true
 unfolding risesFrom insert

@@ -16,6 +16,7 @@ use Rattle.intervals.specs.Cover.{lowAt, highAt}
 use Rattle.lists.proofs.Bools.{bool, not-both, both-ways, or-left, or-neither}
 use Rattle.lists.proofs.Refusals.{refused-here}
 use Rattle.lists.proofs.Bounded.{all-at, all-of, none-of}
+use Rattle.lists.proofs.Distinct.{every-in, every-of}
 use Rattle.hierarchy.proofs.Legals.{promised}
 use Rattle.interval_laws.proofs.Laws.{built-low, built-high, interval-real, interval-inside-root, taken}
 use Rattle.locks.specs.declared.Lock.{Lock}
@@ -37,8 +38,7 @@ use Rattle.runs.proofs.Lends.{low-lent, high-lent}
 use Rattle.runs.proofs.Runs.{run-hierarchy, run-over}
 use Rattle.history.specs.Serial.{Built}
 use Rattle.history.specs.Results.{Made, AllMeet, toldByAll, lastDesk}
-use Rattle.history.proofs.Nested.{built-nested, every-in, name-below}
-use Rattle.soundness.proofs.Named.{every-of}
+use Rattle.history.proofs.Nested.{built-nested, name-below}
 use Rattle.history.proofs.Results.{stepsFor, results-run}
 use Rattle.soundness.specs.Refused.{isRefusal, refusedWith}
 use Rattle.soundness.proofs.Laws.{unchanged-get, unchanged-put, unchanged-add, fresh-sound}

@@ -14,7 +14,7 @@ use Rattle.lists.proofs.Bools.{bool, not-both, and-left, and-right}
 use Rattle.lists.proofs.Bounded.{all-at}
 use Rattle.lists.proofs.Refusals.{refusal-none, refused-here}
 use Rattle.lists.proofs.Members.{In}
-use Rattle.lists.proofs.Distinct.{any-in}
+use Rattle.lists.proofs.Distinct.{any-in, any-found}
 use Rattle.hierarchy.specs.Hierarchy.{edgesOf, edgeWrong, Edge, Reach, flagged, reach, inReach}
 use Rattle.hierarchy.proofs.Legals.{no-edge, right-edge}
 use Rattle.hierarchy.proofs.Reaches.{reach-all, reach-only}
@@ -31,7 +31,7 @@ use Rattle.desk.specs.Desks.{stageAt}
 use Rattle.desk.specs.Steps.{stepChecks, StepFacts, nodeChecks, valuesShort, valueChecks, scratchLeft, getOwn, getStep, putOwn, putStep, sum64, addOwn, addStep}
 use Rattle.desk.proofs.Facts.{step-facts, holder-of}
 use Rattle.history.proofs.Facts.{touch}
-use Rattle.history.proofs.Nested.{any-found, flag-one, holder-names}
+use Rattle.history.proofs.Nested.{flag-one, holder-names}
 use Rattle.history.proofs.Modes.{get-none, put-none}
 use Rattle.soundness.proofs.Named.{ascending-any, named-names}
 use Rattle.lists.proofs.Numbers.{holdsWith, decides, passed, onward}

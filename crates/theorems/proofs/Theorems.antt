@@ -5,12 +5,12 @@
 use mathlib.Core.Path.{_≡_, refl, sym, ap, subst, _∙_}
 use mathlib.Core.Logic.{_⊎_, inl, inr}
 use mathlib.Core.List.{List, [], _∷_, _++_, map}
-use mathlib.Core.Bool.{Bool, true, false, cond, and-false}
+use mathlib.Core.Bool.{Bool, true, false, not, cond, and-false}
 use mathlib.Core.Option.{none}
 use Prim.Native.Nat.{ℕ, zero, suc, _+_, _*_, _%_, _^_, _≤_, _<_, min, max}
 use native.Mathlib.Omega.{arith}
 use lib.Dec.{eqb, ltb}
-use borrow.Author.Tests.{lt-ltb, le-leb, ne-eqb, not-false}
+use borrow.Author.Tests.{lt-ltb, le-leb, eq-eqb, ne-eqb, not-true, not-false}
 use lib.ListN.{length, getD, set, take, replicate}
 use Rattle.lists.specs.Lists.{every, any, count, sum, over, Below}
 use Rattle.lists.specs.Answer.{done, refused, refusal}
@@ -25,7 +25,9 @@ use Rattle.locks.specs.declared.Mode.{Mode}
 use Rattle.locks.specs.declared.Mode.the-variants.{Reading, Writing, Adding}
 use Rattle.locks.specs.declared.Lock.{Lock}
 use Rattle.locks.specs.Locks.{compatible, share, conflict}
-use Rattle.locks.specs.declared.Stage.the-variants.{Waiting, Holding}
+use Rattle.locks.specs.declared.Stage.{Stage}
+use Rattle.locks.specs.declared.Stage.the-variants.{Out, Waiting, Holding}
+use Rattle.locks.specs.Stages.{isOut}
 use Rattle.naming.specs.declared.Names.{Names}
 use Rattle.naming.specs.Names.{rises, ascending, namesOf, namesRight, named}
 use Rattle.locks.specs.Lent.{Hierarchy, lent, lowIn, highIn, coverIn, tablesShort, lockFor, insideLock}
@@ -33,8 +35,10 @@ use Rattle.grants.specs.Grants.{noGrants, countGrants}
 use Rattle.desk.specs.declared.Desk.{Desk}
 use Rattle.desk.specs.Desks.{freshDesk, stageAt}
 use Rattle.desk.specs.Sound.{soundDesk}
-use Rattle.desk.specs.Steps.{granted, enterRefusal, enterStep, stepChecks, valuesShort, getStep, putStep, addStep, leaveStep}
-use Rattle.runs.specs.Run.{Step, Event, State, start, Ran, run}
+use Rattle.desk.specs.declared.EnterStep.{EnterStep}
+use Rattle.desk.specs.declared.EnterAnswer.the-variants.{Waits}
+use Rattle.desk.specs.Steps.{granted, waits as waiting, enterRefusal, enterStep, stepChecks, valuesShort, getStep, putStep, addStep, leaveStep}
+use Rattle.runs.specs.Run.{Step, Event, left as left-with, State, start, Ran, run}
 use Rattle.runs.specs.Over.{startOver, runOver}
 use Rattle.history.specs.History.{history, grantedIn, bareEvent, opsIn, countedFrom, serialFinds, serialLeaves}
 use Rattle.history.specs.Serial.{Built, SerialSteps}
@@ -42,6 +46,9 @@ use Rattle.desk.specs.Answers.{Enters, Gets, Puts, Adds, Leaves}
 use Rattle.history.specs.Results.{Result, enter, get, put, add, leave, Made, Meets, deskFrom, valuesFrom, AllMeet, toldByAll, lastDesk, lastValues}
 use Rattle.soundness.specs.Refused.{refusedWith}
 use Rattle.soundness.specs.Given.{givenIn, Keeps}
+use Rattle.fairness.specs.AnySteps.{AnyStep, moveAny, runAny, Called, AllCalled, toldBack, deskAfter}
+use Rattle.fairness.specs.Ahead.{isPresent, ahead, others, isLeave, isEnter, hasLeft, allLeft, visitLeft}
+use Rattle.fairness.specs.Rules.{paperRules, newcomersPass, fromTheBack, onlyHolders, NobodyPassedOver}
 use Rattle.file_laws.specs.Files.{eventsOf}
 use Rattle.replay.specs.Replay.{waits, stored, left, FileRun, granted as admitted, refused as denied, recordList, stepRecords, sizeOf, edgeTable, edgeCountOf, answersOf}
 use Rattle.replay.specs.Replay.{performAll, runFile}
@@ -56,6 +63,8 @@ use Rattle.needless.specs.Waits.{noWaits, isWaits, reachesMeet, waitsOf}
 use Rattle.needless_laws.specs.Visits.{OneEach}
 use Rattle.lists.proofs.Marks.{zero-at}
 use Rattle.lists.proofs.Members.{In}
+use Rattle.lists.proofs.Bools.{bool, not-both}
+use Rattle.lists.proofs.Distinct.{every-in, Distinct}
 use Rattle.interval_laws.proofs.Laws as laws
 use Rattle.interval_laws.proofs.Scratch as building
 use Rattle.intervals.proofs.Bounds as bounds-laws
@@ -67,7 +76,6 @@ use Rattle.history.proofs.Serializable as serial
 use Rattle.history.proofs.Results as results
 use Rattle.history.proofs.Grants as counted
 use Rattle.history.proofs.Modes as modes
-use Rattle.history.proofs.Nested as nested
 use Rattle.grants.proofs.Counts as sum-laws
 use Rattle.file_laws.proofs.Laws as files
 use Rattle.soundness.proofs.Laws as unchanged
@@ -78,6 +86,11 @@ use Rattle.soundness.proofs.Named as given-names
 use Rattle.soundness.proofs.Given as given
 use Rattle.soundness.proofs.Seen as seen
 use Rattle.soundness.proofs.Scratch as used
+use Rattle.soundness.proofs.Orderly.{Shaped}
+use Rattle.fairness.proofs.Visits as visits
+use Rattle.fairness.proofs.Fairness as waited
+use Rattle.fairness.proofs.Hosts as hosts
+use Rattle.fairness.proofs.Shams as shams
 use Rattle.opening.specs.declared.OpenAnswer.the-variants.{Opened}
 use Rattle.opening.specs.Opening.{openFile}
 use Rattle.texts.specs.Lines.{stepLines, endLine, partyLine, partyLines, listing as listingOf}
@@ -684,7 +697,7 @@ enter-names H d party mode names nameCount fine =
     let lock = lockFor H mode (take nameCount names) in
     let fit = kept.call-fit H d party mode names nameCount fine in (
       fit .names,
-      λ name i. cover-laws.contains-ends (record { low = lock .low; high = lock .high }) (intervalAt (H .intervals) name) (nested.every-in (λ x. insideLock H x lock) (fit .covered) i),
+      λ name i. cover-laws.contains-ends (record { low = lock .low; high = lock .high }) (intervalAt (H .intervals) name) (every-in (λ x. insideLock H x lock) (fit .covered) i),
     )
 
 -- names play no part in a conflict
@@ -799,6 +812,133 @@ scratch-unasked = building.scratch-unasked
 build-scratch : (n : ℕ) (edges : List ℕ) (edgeCount : ℕ) (places scratch : List ℕ) → let b = buildStep n edges edgeCount places scratch in
     (b .answer ≡ refused 1 → b .scratch ≡ scratch) × ((b .answer ≡ refused 1 → ⊥) → b .scratch ≡ over (replicate 512 0) scratch)
 build-scratch n edges edgeCount places scratch = (building.build-scratch-one n edges edgeCount places scratch, building.build-scratch-other n edges edgeCount places scratch)
+
+-- 02, POINT 8. NOBODY IS PASSED OVER. A call of party p begins to wait: its enter is answered `waits`, at any desk of 32 entries and 32 places, over any tables
+abbrev Begins : Hierarchy → Desk → ℕ → Mode → List ℕ → ℕ → Type 0
+Begins K d p mode names nameCount = (length (d .entries) ≡ 32) × (length (d .queue) ≡ 32) × ((enterStep K d p mode names nameCount) .answer ≡ done waiting)
+
+-- one from the other
+shaped : (d : Desk) → length (d .entries) ≡ 32 → length (d .queue) ≡ 32 → Shaped d
+shaped d e q = record { entries = e; queue = q }
+
+-- a call begins to wait at a sound desk only: at any other it is refused with 10. Its party is out there,
+begins-sound : (K : Hierarchy) (d : Desk) (p : ℕ) (mode : Mode) (names : List ℕ) (nameCount : ℕ) → Begins K d p mode names nameCount
+    → (soundDesk K d ≡ true) × (stageAt d p ≡ Out)
+begins-sound K d p mode names nameCount (e, q, a) =
+    (waited.waits-sound K d (shaped d e q) p mode names nameCount a, waited.waits-out K d (shaped d e q) p mode names nameCount a)
+
+-- and then comes any list of steps, each lent any tables and any buffers, each having the desk that the one before handed back (`runAny`), the first that of the enter. AS SOON AS the
+-- visit or call that each party had, which was holding or waiting when the call began to wait, has left (`visitLeft`), the call holds, unless its own has left
+nobody-passed-over : (K : Hierarchy) (d : Desk) (p : ℕ) (mode : Mode) (names : List ℕ) (nameCount : ℕ) → Begins K d p mode names nameCount
+    → (s : State) → s .desk ≡ (enterStep K d p mode names nameCount) .desk → (steps : List AnyStep) → let ran = runAny steps s in
+    ((q : ℕ) → q < 32 → (stageAt d q ≡ Out → ⊥) → visitLeft (ran .events) q ≡ true) → visitLeft (ran .events) p ≡ false
+    → stageAt (ran .state .desk) p ≡ Holding (lockFor K mode (take nameCount names))
+nobody-passed-over K d p mode names nameCount (e, q, a) s same steps all stays =
+    waited.no-visit-passed-over K d (shaped d e q) p mode names nameCount a s same steps
+    (λ r i. let (h, there) = waited.in-ahead d r i in all r h (λ out. not-both (isPresent d r) there (ap (λ (x : Stage). not (isOut x)) out))) stays
+
+-- who is ahead, as a list: the parties that hold or wait there, each once,
+ahead-are : (d : Desk) (q : ℕ) → (In q (ahead d) → (q < 32) × (isOut (stageAt d q) ≡ false)) × ((q < 32) × (isOut (stageAt d q) ≡ false) → In q (ahead d))
+ahead-are d q = (λ i. let (h, e) = waited.in-ahead d q i in (h, not-true (isOut (stageAt d q)) e), λ (h, e). waited.ahead-in d q h (rw e refl))
+
+ahead-once : (d : Desk) → Distinct (ahead d)
+ahead-once = waited.ahead-once
+
+-- are 1 to 31,
+ahead-most : (K : Hierarchy) (d : Desk) (p : ℕ) (mode : Mode) (names : List ℕ) (nameCount : ℕ) → Begins K d p mode names nameCount → (1 ≤ length (ahead d)) × (length (ahead d) ≤ 31)
+ahead-most K d p mode names nameCount (e, q, a) =
+    let s : State = record { hierarchy = K; desk = (enterStep K d p mode names nameCount) .desk; values = [] } in
+    (waited.some-ahead K d (shaped d e q) p mode names nameCount a s refl, waited.at-most-31 K d (shaped d e q) p mode names nameCount a)
+
+-- SO AT MOST 31 LEAVES, those of these visits, stand before the call: while it does not hold, fewer than 31 of them have left, and fewer than they are, whatever else was done among them
+leaves-before : (K : Hierarchy) (d : Desk) (p : ℕ) (mode : Mode) (names : List ℕ) (nameCount : ℕ) → Begins K d p mode names nameCount
+    → (s : State) → s .desk ≡ (enterStep K d p mode names nameCount) .desk → (steps : List AnyStep) → let ran = runAny steps s in
+    hasLeft (ran .events) p ≡ false → (stageAt (ran .state .desk) p ≡ Holding (lockFor K mode (take nameCount names)) → ⊥)
+    → (count (hasLeft (ran .events)) (ahead d) < 31) × (count (hasLeft (ran .events)) (ahead d) < length (ahead d))
+leaves-before K d p mode names nameCount (e, q, a) s same steps stays not-yet = (
+  waited.before-31-leaves K d (shaped d e q) p mode names nameCount a s same steps stays not-yet,
+  waited.fewer-left K d (shaped d e q) p mode names nameCount a s same steps stays not-yet,
+)
+
+-- the list that ends with the last of these leaves, of q: behind it the call holds, and where it did not before, that leave's answer lists its party
+as-soon-as : (K : Hierarchy) (d : Desk) (p : ℕ) (mode : Mode) (names : List ℕ) (nameCount : ℕ) → Begins K d p mode names nameCount
+    → (s : State) → s .desk ≡ (enterStep K d p mode names nameCount) .desk → (first : List AnyStep) (last : AnyStep) (q : ℕ) (parties : List ℕ)
+    → let before = runAny first s in let then = moveAny last (before .state) in let lock = lockFor K mode (take nameCount names) in
+    In q (ahead d) → allLeft (others q d) (before .events) ≡ true → hasLeft (before .events) p ≡ false → then .event ≡ left-with q (done parties)
+    → (stageAt (then .state .desk) p ≡ Holding lock) × ((stageAt (before .state .desk) p ≡ Holding lock → ⊥) → In p parties)
+as-soon-as K d p mode names nameCount (e, r, a) s same first last q parties i all stays goes = (
+  waited.as-soon-as K d (shaped d e r) p mode names nameCount a s same first last q i all (ap (isLeave q) goes ∙ eq-eqb q q refl) stays,
+  waited.listed-then K d (shaped d e r) p mode names nameCount a s same first last q i all parties goes stays,
+)
+
+-- WHO LEAVES AND COMES BACK COUNTS AS A LATER VISIT. On any desk, over any tables: as long as a party has taken no leave that was not refused, it has the visit or call that it had, for the same
+-- lock, and none of its enters was taken,
+visit-lasts : (q : ℕ) (l : Lock) (s : State) (steps : List AnyStep) → let ran = runAny steps s in let stage = stageAt (ran .state .desk) q in
+    (stageAt (s .desk) q ≡ Holding l) ⊎ (stageAt (s .desk) q ≡ Waiting l) → hasLeft (ran .events) q ≡ false
+    → ((stage ≡ Holding l) ⊎ (stage ≡ Waiting l)) × (any (isEnter q) (ran .events) ≡ false)
+visit-lasts = visits.visit-lasts
+
+-- its first leave that is not refused ends it,
+leave-ends : (x : AnyStep) (s : State) (q : ℕ) → isLeave q ((moveAny x s) .event) ≡ true → stageAt ((moveAny x s) .state .desk) q ≡ Out
+leave-ends = visits.leave-ends
+
+-- so that the visit or call that it had has left (a leave of its, not refused, stands before any enter of its that was not refused) just where it has taken any leave that was not refused,
+comes-back : (q : ℕ) (steps : List AnyStep) (s : State) → (stageAt (s .desk) q ≡ Out → ⊥) → let ran = runAny steps s in visitLeft (ran .events) q ≡ hasLeft (ran .events) q
+comes-back q steps s there =
+    visits.comes-back q steps s (bool (isOut (stageAt (s .desk) q)) (λ e. absurd (there (kept.is-out (stageAt (s .desk) q) e))) (λ e. rw e refl))
+
+-- and what it does afterwards, or anybody else, changes nothing: once those ahead have left, the call holds until its own party leaves
+afterwards : (K : Hierarchy) (d : Desk) (p : ℕ) (mode : Mode) (names : List ℕ) (nameCount : ℕ) → Begins K d p mode names nameCount
+    → (s : State) → s .desk ≡ (enterStep K d p mode names nameCount) .desk → (first more : List AnyStep)
+    → allLeft (ahead d) ((runAny first s) .events) ≡ true → hasLeft ((runAny (first ++ more) s) .events) p ≡ false
+    → stageAt ((runAny (first ++ more) s) .state .desk) p ≡ Holding (lockFor K mode (take nameCount names))
+afterwards K d p mode names nameCount (e, q, a) = waited.afterwards K d (shaped d e q) p mode names nameCount a
+
+-- OF A PARTY THAT WAITS ALREADY, at any sound desk: as soon as all others that hold or wait there, at most 31, have left, it holds what it waits for, unless it left
+waits-already : (K : Hierarchy) (s : State) → length (s .desk .entries) ≡ 32 → length (s .desk .queue) ≡ 32 → soundDesk K (s .desk) ≡ true
+    → (p : ℕ) (l : Lock) → stageAt (s .desk) p ≡ Waiting l
+    → (length (others p (s .desk)) ≤ 31)
+    × ((steps : List AnyStep) → let ran = runAny steps s in allLeft (others p (s .desk)) (ran .events) ≡ true → hasLeft (ran .events) p ≡ false
+    → stageAt (ran .state .desk) p ≡ Holding l)
+waits-already K s e q sound p l w =
+    (waited.others-at-most-31 K s (shaped (s .desk) e q) sound p l w, waited.nobody-passed-over-later K s (shaped (s .desk) e q) sound p l w)
+
+-- OVER ONE HIERARCHY, in the lists of demand 3, that is so too, of any part of a list that starts from any desk
+run-passes-nobody : (K : Hierarchy) (d : Desk) (p : ℕ) (mode : Mode) (names : List ℕ) (nameCount : ℕ) → Begins K d p mode names nameCount
+    → (s : State) → s .desk ≡ (enterStep K d p mode names nameCount) .desk → (steps : List Step) → let ran = run steps s in
+    allLeft (ahead d) (ran .events) ≡ true → hasLeft (ran .events) p ≡ false → stageAt (ran .state .desk) p ≡ Holding (lockFor K mode (take nameCount names))
+run-passes-nobody K d p mode names nameCount (e, q, a) = hosts.run-passes-nobody K d (shaped d e q) p mode names nameCount a
+
+-- AND OF A HOST'S OWN CALLS: each result meets the contract of its method, on the desk that the call before handed back, over any tables; of the values nothing is asked, since any buffer is
+-- lent of none
+lent-any : (buffer : List ℕ) → Lent [] buffer
+lent-any buffer = inr refl
+
+AnyContracts : Desk → List Called → Type 0
+AnyContracts d [] = Unit
+AnyContracts d (c ∷ cs) = Contract (c .tables) d [] (c .result) × AnyContracts (deskFrom (c .result)) cs
+
+-- one from the other
+all-called : (d : Desk) (calls : List Called) → AnyContracts d calls → AllCalled d calls
+unfolding AllCalled AnyContracts
+all-called d [] k = tt
+all-called d (c ∷ cs) (m, k) = (met (c .tables) d [] (c .result) m, all-called (deskFrom (c .result)) cs k)
+
+-- the enter's own does, and says `Waits`: by the answers of these very calls
+results-pass-nobody : (K : Hierarchy) (d : Desk) (p : ℕ) (mode : Mode) (names : List ℕ) (nameCount : ℕ) → length (d .entries) ≡ 32 → length (d .queue) ≡ 32
+    → (r : EnterStep) → Enters r (enterStep K d p mode names nameCount) → r .answer ≡ Waits → (calls : List Called) → AnyContracts (r .desk) calls
+    → allLeft (ahead d) (toldBack calls) ≡ true → hasLeft (toldBack calls) p ≡ false
+    → stageAt (deskAfter (r .desk) calls) p ≡ Holding (lockFor K mode (take nameCount names))
+results-pass-nobody K d p mode names nameCount e q r m a calls k =
+    hosts.results-pass-nobody K d (shaped d e q) p mode names nameCount r m a calls (all-called (r .desk) calls k)
+
+-- IT IS THE PAPER'S RULES THAT DO IT: they pass nobody over,
+paper-passes-nobody : NobodyPassedOver paperRules ahead
+paper-passes-nobody = shams.paper-passes-nobody
+
+-- and it is false of a desk that lets newcomers pass those that wait, of one that takes the waiters from the back, and where only the holders count as ahead
+others-pass-over : (NobodyPassedOver newcomersPass ahead → ⊥) × (NobodyPassedOver fromTheBack ahead → ⊥) × (NobodyPassedOver paperRules onlyHolders → ⊥)
+others-pass-over = (shams.newcomers-pass-over, shams.back-passes-over, shams.waiters-count)
 
 -- THE STARRED CASES, with the papers' figures, those of {8}, of the ninth case and of the listing as document 02's points 1 and 4 have them: each passes, by computation. Table T and
 -- the table of the ninth case

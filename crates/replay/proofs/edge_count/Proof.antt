@@ -7,11 +7,11 @@ use native.Mathlib.Omega.{arith}
 use lib.Dec.{eqb}
 use lib.ListN.{length, drop}
 use Rattle.lists.specs.Lists.{count}
-use Rattle.lists.proofs.Loops.{count-end}
+use Rattle.lists.proofs.Loops.{count-end, one-most}
 use Rattle.blocks.specs.Record.{kindOf}
 use Rattle.replay.specs.Replay.{recordList, edgeCountOf}
 use Rattle.replay.specs.Inner.{recordAt}
-use Rattle.replay.proofs.Records.{records-length, records-at, count-turn, one-most}
+use Rattle.replay.proofs.Records.{records-length, records-at, count-turn}
 use Rattle.replay.proofs.edge_count.Statement.{statement}
 use Rattle.replay.proofs.edge_count.Tie as tie
 

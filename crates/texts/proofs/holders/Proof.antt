@@ -6,12 +6,12 @@ use native.Mathlib.Omega.{arith}
 use lib.ListN.{length, drop, getD}
 use borrow.Author.Needs.{needs}
 use Rattle.lists.specs.Lists.{count}
-use Rattle.lists.proofs.Loops.{field-length, count-end}
+use Rattle.lists.proofs.Loops.{field-length, count-end, one-most}
 use Rattle.parties.specs.declared.Entry.{Entry}
 use Rattle.locks.specs.declared.Stage.the-variants.{Out}
 use Rattle.parties.specs.Parties.{entryOf}
 use Rattle.replay.specs.Replay.{isHolding, holdersAt}
-use Rattle.replay.proofs.Records.{count-turn, one-most}
+use Rattle.replay.proofs.Records.{count-turn}
 use Rattle.texts.proofs.holders.Statement.{statement}
 use Rattle.texts.proofs.holders.Tie as tie
 

@@ -1,0 +1,349 @@
+-- THEOREMS: nobody is passed over (02, point 8). Assumes nothing.
+use mathlib.Core.Path.{_≡_, refl, sym, ap, _∙_, subst}
+use mathlib.Core.Logic.{_⊎_, inl, inr, _≢_}
+use mathlib.Core.List.{List, [], _∷_, _++_}
+use mathlib.Core.Bool.{Bool, true, false, not, _||_}
+use mathlib.Core.Option.{Option, none, some}
+use Prim.Native.Nat.{ℕ, zero, suc, _≤_, _<_}
+use native.Mathlib.Omega.{arith}
+use lib.Dec.{eqb, ltb}
+use lib.ListN.{length, set, take, length-append}
+use borrow.Author.Tests.{eqb-true, eqb-false, eq-eqb, ne-eqb, not-true}
+use Rattle.lists.specs.Lists.{every, any, count}
+use Rattle.lists.specs.Answer.{done, refused}
+use Rattle.lists.proofs.Bools.{bool, not-both, or-left, or-right, or-either, or-neither}
+use Rattle.lists.proofs.Members.{In, in-nil, in-cons}
+use Rattle.lists.proofs.Loops.{count-most}
+use Rattle.lists.proofs.Distinct.{every-in, every-of, in-front, in-between, in-keep, keep-in, Distinct, distinct-last, distinct-keep, distinct-below}
+use Rattle.locks.specs.declared.Mode.{Mode}
+use Rattle.locks.specs.declared.Lock.{Lock}
+use Rattle.locks.specs.declared.Stage.{Stage}
+use Rattle.locks.specs.declared.Stage.the-variants.{Out, Waiting, Holding}
+use Rattle.locks.specs.Stages.{isOut, isWaiting}
+use Rattle.locks.specs.Lent.{Hierarchy, lockFor}
+use Rattle.parties.specs.Parties.{entryOf}
+use Rattle.desk.specs.declared.Desk.{Desk}
+use Rattle.desk.specs.Desks.{stageAt, queueOf}
+use Rattle.desk.specs.Sound.{soundDesk}
+use Rattle.desk.specs.Steps.{waits, enterOwn, free, queueLast, enterRefusal, enterIf, enterUnless, enterStep}
+use Rattle.desk.proofs.Facts.{step-facts}
+use Rattle.runs.specs.Run.{Event, entered, got, stored, added, left, State, Moved, Ran, alsoRan}
+use Rattle.history.proofs.Facts.{set-stage, holder-below}
+use Rattle.soundness.proofs.Orderly.{Shaped, Orderly, sound-reads, sound-orderly}
+use Rattle.soundness.proofs.Changes.{stage-same}
+use Rattle.soundness.proofs.Kept.{enter-shaped, enter-sound}
+use Rattle.fairness.specs.AnySteps.{AnyStep, moveAny, runAny}
+use Rattle.fairness.specs.Ahead.{numbersBelow, isPresent, ahead, others, isLeave, hasLeft, allLeft, visitLeft}
+use Rattle.fairness.proofs.Queues.{in-split, Before, before-in, before-apart, before-last, queue-made}
+use Rattle.fairness.proofs.Visits.{entered-out, hold-lasts, enter-present, comes-back, granted-listed}
+use Rattle.fairness.proofs.Behind.{waiter-below, sound-few, Behind, Standing, Kept, nobody-ahead, call-kept}
+
+-- THOSE AHEAD. The numbers below n are those, each once
+below-in : (n p : ℕ) → p < n → In p (numbersBelow n)
+unfolding numbersBelow
+below-in zero p h = absurd (omega arith)
+below-in (suc n) p h =
+    bool (eqb p n)
+    (λ e. subst (λ (k : ℕ). In k (numbersBelow n ++ (n ∷ []))) (sym (eqb-true p n e)) (in-between n (numbersBelow n) []))
+    (λ e. in-front (numbersBelow n) (n ∷ []) (below-in n p (omega (arith, eqb-false p n e))))
+
+in-below : (n p : ℕ) → In p (numbersBelow n) → p < n
+unfolding numbersBelow
+in-below zero p i = in-nil i
+in-below (suc n) p i = by (in-below n p) (in-split (numbersBelow n) (n ∷ []) i)
+  where
+    by : (In p (numbersBelow n) → p < n) → In p (numbersBelow n) ⊎ In p (n ∷ []) → p < suc n
+    by below (inl j) = let h = below j in omega arith
+    by below (inr j) = in-cons j (λ e. omega arith) (λ k. in-nil k)
+
+distinct-numbers : (n : ℕ) → Distinct (numbersBelow n)
+unfolding numbersBelow
+distinct-numbers zero = tt
+distinct-numbers (suc n) = distinct-last (numbersBelow n) n (distinct-numbers n) (λ i. let h = in-below n n i in omega arith)
+
+-- those ahead are the parties 0 to 31 that hold or wait,
+pub ahead-in : (d : Desk) (q : ℕ) → q < 32 → isPresent d q ≡ true → In q (ahead d)
+ahead-in d q h e = in-keep (isPresent d) (below-in 32 q h) e
+
+pub in-ahead : (d : Desk) (q : ℕ) → In q (ahead d) → (q < 32) × (isPresent d q ≡ true)
+in-ahead d q i = let (j, e) = keep-in (isPresent d) q (numbersBelow 32) i in (in-below 32 q j, e)
+
+-- each once, so that they are at most 32
+pub ahead-once : (d : Desk) → Distinct (ahead d)
+ahead-once d = distinct-keep (isPresent d) (numbersBelow 32) (distinct-numbers 32)
+
+waiting-present : (x : Stage) → isWaiting x ≡ true → not (isOut x) ≡ true
+waiting-present Out e = e
+waiting-present (Waiting l) e = refl
+waiting-present (Holding l) e = refl
+
+-- A LIST OF STEPS, until nobody is left in S
+run-holds : (p : ℕ) (l : Lock) (steps : List AnyStep) (s : State) (S : ℕ → Type 0) → Kept p l S (s .desk)
+    → ((q : ℕ) → S q → hasLeft ((runAny steps s) .events) q ≡ true) → hasLeft ((runAny steps s) .events) p ≡ false
+    → stageAt ((runAny steps s) .state .desk) p ≡ Holding l
+unfolding runAny alsoRan any
+run-holds p l [] s S k all stays = nobody-ahead p l S (s .desk) k (λ q a. not-both false (all q a) refl)
+run-holds p l (x ∷ xs) s S k all stays =
+    let m : Moved = moveAny x s in
+    run-holds p l xs (m .state) (λ q. S q × (isLeave q (m .event) ≡ false))
+    (call-kept p l S (x .tables) (x .call) s k (or-left (isLeave p (m .event)) _ stays))
+    (λ q a. or-either (isLeave q (m .event)) _ (all q (a .0)) (λ h. not-both (isLeave q (m .event)) h (a .1)) (λ h. h))
+    (or-right (isLeave p (m .event)) _ stays)
+
+-- two lists of steps, one behind the other
+pub run-behind : (xs ys : List AnyStep) (s : State) → let first = runAny xs s in let more = runAny ys (first .state) in
+    runAny (xs ++ ys) s ≡ record { state = more .state; events = first .events ++ more .events }
+unfolding runAny alsoRan
+run-behind [] ys s = refl
+run-behind (x ∷ xs) ys s = ap (alsoRan (moveAny x s)) (run-behind xs ys ((moveAny x s) .state))
+
+-- a party has left in the one or in the other
+pub left-behind : (xs ys : List (Event ℕ)) (q : ℕ) → hasLeft (xs ++ ys) q ≡ (hasLeft xs q || hasLeft ys q)
+unfolding any
+left-behind [] ys q = refl
+left-behind (x ∷ xs) ys q = bool (isLeave q x) (λ e. rw e refl) (λ e. rw e (left-behind xs ys q))
+
+-- an event is a leave of one party at most
+one-leaves : (q p : ℕ) (e : Event ℕ) → isLeave q e ≡ true → isLeave p e ≡ true → q ≡ p
+one-leaves q p (entered party a) g h = not-both true refl (sym g)
+one-leaves q p (got party node a) g h = not-both true refl (sym g)
+one-leaves q p (stored party node value a) g h = not-both true refl (sym g)
+one-leaves q p (added party node number a) g h = not-both true refl (sym g)
+one-leaves q p (left party (done granted)) g h = sym (eqb-true party q g) ∙ eqb-true party p h
+one-leaves q p (left party (refused k)) g h = not-both true refl (sym g)
+
+-- where a test fails somewhere in a list, it holds at fewer elements than the list has
+count-fewer : (f : ℕ → Bool) (xs : List ℕ) → every f xs ≡ false → count f xs < length xs
+unfolding count every
+count-fewer f [] e = not-both true refl e
+count-fewer f (x ∷ xs) e =
+    bool (f x)
+    (λ t. let h = count-fewer f xs (rw t at e) in rw t (omega arith))
+    (λ t. let h = count-most f xs in rw t (omega arith))
+
+-- WHEN A CALL BEGINS TO WAIT: the party was out, the desk was sound, and the party is behind those ahead
+record Began (K : Hierarchy) (d : Desk) (p : ℕ) (l : Lock) (new : Desk) : Type 0 where
+  party : p < 32
+  out : stageAt d p ≡ Out
+  sound : soundDesk K d ≡ true
+  begins : stageAt new p ≡ Waiting l
+  kept : Kept p l (λ q. In q (ahead d)) new
+
+module _ (K : Hierarchy) (d : Desk) (shape : Shaped d) (p : ℕ) (mode : Mode) (names : List ℕ) (nameCount : ℕ) where
+  -- what it called for
+  abbrev l : Lock
+  l = lockFor K mode (take nameCount names)
+
+  began-waiting : soundDesk K d ≡ true → p < 32 → stageAt d p ≡ Out → Shaped (queueLast d p l) → soundDesk K (queueLast d p l) ≡ true
+      → Began K d p l (queueLast d p l)
+  began-waiting s below out shape′ s′ =
+      let c = sound-few d shape (K, s) in
+      let few = sound-few (queueLast d p l) shape′ (K, s′) .1 in
+      let made : queueOf (queueLast d p l) ≡ queueOf d ++ (p ∷ []) =
+      queue-made (queueLast d p l) (queueOf d ++ (p ∷ [])) refl (omega (arith, c, length-append (queueOf d) (p ∷ []))) (omega (arith, few, c, length-append (queueOf d) (p ∷ []))) in
+      record {
+        party = below;
+        out = out;
+        sound = s;
+        begins = at-first;
+        kept = record {
+          shaped = shape′;
+          sound = (K, s′);
+          standing = subst (λ (list : List ℕ). Standing p l (λ q. In q (ahead d)) (set (d .entries) p (entryOf (Waiting l))) list) (sym made) (inr behind);
+        };
+      }
+    where
+      at-first : stageAt (queueLast d p l) p ≡ Waiting l
+      at-first = stage-same (d .entries) p (Waiting l) (omega (arith, shape .entries))
+
+      waiter : (q : ℕ) → In q (queueOf d) → In q (ahead d)
+      waiter q i =
+          let o = sound-orderly K d (queueOf d) (sound-reads K d shape s) (shape .entries) s in
+          ahead-in d q (o .parties q i) (waiting-present (stageAt d q) (o .waits q i))
+
+      holder : (q : ℕ) (h : Lock) → ((p ≡ q) × (Waiting l ≡ Holding h)) ⊎ (stageAt d q ≡ Holding h) → In q (ahead d)
+      holder q h (inl e) = absurd (let a = e .1 in let z : _≡_ {A = ℕ} 0 1 = cc in omega arith)
+      holder q h (inr e) = ahead-in d q (omega (arith, holder-below (d .entries) q h e, shape .entries)) (ap (λ (x : Stage). not (isOut x)) e)
+
+      behind : Behind p l (λ q. In q (ahead d)) (set (d .entries) p (entryOf (Waiting l))) (queueOf d ++ (p ∷ []))
+      behind = record {
+        waits = at-first;
+        listed = in-between p (queueOf d) [];
+        earlier = λ q b. waiter q (before-last q p p (queueOf d) b);
+        holders = λ q h e c. holder q h (set-stage (d .entries) p q (Waiting l) h e);
+      }
+
+  began : (enterStep K d p mode names nameCount) .answer ≡ done waits → Began K d p l ((enterStep K d p mode names nameCount) .desk)
+  unfolding enterStep
+  began a = by (enterRefusal K d p names nameCount) refl a
+    where
+      by : (o : Option ℕ) → enterRefusal K d p names nameCount ≡ o → (enterUnless o d p l) .answer ≡ done waits → Began K d p l ((enterUnless o d p l) .desk)
+      by (some j) e a = not-both true refl cc
+      by none e a = test (free d l) refl a
+        where
+          test : (b : Bool) → free d l ≡ b → (enterIf b d p l) .answer ≡ done waits → Began K d p l ((enterIf b d p l) .desk)
+          test true g a = not-both true refl cc
+          test false g a =
+              let f = step-facts K d p (ltb (length names) nameCount) (enterOwn K d p names nameCount) e in
+              began-waiting (f .sound) (f .party-below) (entered-out K d p names nameCount e)
+              (subst (λ (b : Bool). Shaped ((enterIf b d p l) .desk)) g (subst (λ (o : Option ℕ). Shaped ((enterUnless o d p l) .desk)) e (enter-shaped K d p mode names nameCount shape)))
+              (subst (λ (b : Bool). soundDesk K ((enterIf b d p l) .desk) ≡ true) g
+              (subst (λ (o : Option ℕ). soundDesk K ((enterUnless o d p l) .desk) ≡ true) e (enter-sound K d p mode names nameCount shape (f .sound))))
+
+-- A CALL OF p IS ANSWERED WAITS at the desk d, with any tables K. d is any desk of 32 entries and 32 places
+module _ (K : Hierarchy) (d : Desk) (shape : Shaped d) (p : ℕ) (mode : Mode) (names : List ℕ) (nameCount : ℕ) (answered : (enterStep K d p mode names nameCount) .answer ≡ done waits) where
+  -- the desk was sound: no other makes a call wait (it would be refused with 10)
+  pub waits-sound : soundDesk K d ≡ true
+  waits-sound = began K d shape p mode names nameCount answered .sound
+
+  -- the party was out, so that it is not ahead of itself
+  pub waits-out : stageAt d p ≡ Out
+  waits-out = began K d shape p mode names nameCount answered .out
+
+  -- those ahead are at most 31
+  pub at-most-31 : length (ahead d) ≤ 31
+  at-most-31 =
+      let b = began K d shape p mode names nameCount answered in
+      let once : Distinct (p ∷ ahead d) = (λ i. not-both false (sym (ap (λ (x : Stage). not (isOut x)) (b .out)) ∙ in-ahead d p i .1) refl, ahead-once d) in
+      omega (arith, distinct-below 32 (p ∷ ahead d) once (λ q i. in-cons i (λ e. omega (arith, b .party)) (λ j. in-ahead d q j .0)))
+
+  -- THEN COME ANY STEPS, each with any arguments and any tables, the first on the desk that the enter handed back
+  module _ (s : State) (same : s .desk ≡ (enterStep K d p mode names nameCount) .desk) where
+    -- at first the party waits for what it called for
+    pub waits-first : stageAt (s .desk) p ≡ Waiting (lockFor K mode (take nameCount names))
+    waits-first = rw same (began K d shape p mode names nameCount answered .begins)
+
+    -- NOBODY IS PASSED OVER: where all parties that were holding or waiting at d have left, the call holds, unless its own party left
+    pub nobody-passed-over : (steps : List AnyStep) → allLeft (ahead d) ((runAny steps s) .events) ≡ true → hasLeft ((runAny steps s) .events) p ≡ false
+        → stageAt ((runAny steps s) .state .desk) p ≡ Holding (lockFor K mode (take nameCount names))
+    nobody-passed-over steps all stays =
+        run-holds p (lockFor K mode (take nameCount names)) steps s (λ q. In q (ahead d)) (rw same (began K d shape p mode names nameCount answered .kept))
+        (λ q i. every-in (hasLeft ((runAny steps s) .events)) all i) stays
+
+    -- THE SAME BY VISITS: where the visit or call that each of them had then has left, and the call has not
+    pub no-visit-passed-over : (steps : List AnyStep) → ((q : ℕ) → In q (ahead d) → visitLeft ((runAny steps s) .events) q ≡ true)
+        → visitLeft ((runAny steps s) .events) p ≡ false
+        → stageAt ((runAny steps s) .state .desk) p ≡ Holding (lockFor K mode (take nameCount names))
+    no-visit-passed-over steps all stays =
+        nobody-passed-over steps
+        (every-of (hasLeft ((runAny steps s) .events)) (ahead d) (λ q i. sym (comes-back q steps s (there q i)) ∙ all q i))
+        (sym (comes-back p steps s (ap (λ (x : Stage). not (isOut x)) waits-first)) ∙ stays)
+      where
+        there : (q : ℕ) → In q (ahead d) → isPresent (s .desk) q ≡ true
+        there q i = rw same (enter-present K d p mode names nameCount q (in-ahead d q i .1))
+
+    -- what is done AFTERWARDS, by those ahead that come back too, changes nothing of it: it holds until its own party leaves
+    pub afterwards : (first more : List AnyStep) → allLeft (ahead d) ((runAny first s) .events) ≡ true → hasLeft ((runAny (first ++ more) s) .events) p ≡ false
+        → stageAt ((runAny (first ++ more) s) .state .desk) p ≡ Holding (lockFor K mode (take nameCount names))
+    afterwards first more all stays =
+        let ran = runAny first s in
+        let also = runAny more (ran .state) in
+        let apart : (hasLeft (ran .events) p || hasLeft (also .events) p) ≡ false =
+        sym (left-behind (ran .events) (also .events) p) ∙ sym (ap (λ (r : Ran). hasLeft (r .events) p) (run-behind first more s)) ∙ stays in
+        ap (λ (r : Ran). stageAt (r .state .desk) p) (run-behind first more s)
+        ∙ hold-lasts p (lockFor K mode (take nameCount names)) (ran .state) more (nobody-passed-over first all (or-left (hasLeft (ran .events) p) (hasLeft (also .events) p) apart))
+        (or-right (hasLeft (ran .events) p) (hasLeft (also .events) p) apart)
+
+    -- AS SOON AS: behind the very leave of the last of those ahead it holds,
+    pub as-soon-as : (first : List AnyStep) (last : AnyStep) (q : ℕ) → In q (ahead d) → allLeft (others q d) ((runAny first s) .events) ≡ true
+        → isLeave q ((moveAny last ((runAny first s) .state)) .event) ≡ true → hasLeft ((runAny first s) .events) p ≡ false
+        → stageAt ((moveAny last ((runAny first s) .state)) .state .desk) p ≡ Holding (lockFor K mode (take nameCount names))
+    unfolding runAny alsoRan any
+    as-soon-as first last q i all goes stays =
+        let ran = runAny first s in
+        let m : Moved = moveAny last (ran .state) in
+        let both = run-behind first (last ∷ []) s in
+        let left-in : (r : ℕ) → hasLeft ((runAny (first ++ (last ∷ [])) s) .events) r ≡ (hasLeft (ran .events) r || hasLeft (m .event ∷ []) r) =
+        λ r. ap (λ (x : Ran). hasLeft (x .events) r) both ∙ left-behind (ran .events) (m .event ∷ []) r in
+        sym (ap (λ (x : Ran). stageAt (x .state .desk) p) both)
+        ∙ nobody-passed-over (first ++ (last ∷ []))
+        (every-of (hasLeft ((runAny (first ++ (last ∷ [])) s) .events)) (ahead d) (λ r j. left-in r ∙ bool (eqb r q) (λ e. mine r (eqb-true r q e)) (λ e. theirs r j e)))
+        (left-in p ∙ or-neither (hasLeft (ran .events) p) (hasLeft (m .event ∷ []) p) stays (or-neither (isLeave p (m .event)) false own refl))
+      where
+        -- the last one leaves now
+        mine : (r : ℕ) → r ≡ q → (hasLeft ((runAny first s) .events) r || (isLeave r ((moveAny last ((runAny first s) .state)) .event) || false)) ≡ true
+        mine r e = rw (e, goes) (bool (hasLeft ((runAny first s) .events) q) (λ t. rw t refl) (λ t. rw t refl))
+
+        -- the others have
+        theirs : (r : ℕ) → In r (ahead d) → eqb r q ≡ false → (hasLeft ((runAny first s) .events) r || (isLeave r ((moveAny last ((runAny first s) .state)) .event) || false)) ≡ true
+        theirs r j e = rw (every-in (hasLeft ((runAny first s) .events)) all (in-keep (λ party. not (eqb party q)) j (rw e refl))) refl
+
+        -- which is no leave of p: p is not ahead of itself
+        own : isLeave p ((moveAny last ((runAny first s) .state)) .event) ≡ false
+        own = bool (isLeave p ((moveAny last ((runAny first s) .state)) .event)) (λ t. absurd (apart (one-leaves q p ((moveAny last ((runAny first s) .state)) .event) goes t))) (λ f. f)
+          where
+            apart : q ≡ p → ⊥
+            apart e = not-both (isPresent d p) (subst (λ (k : ℕ). isPresent d k ≡ true) e (in-ahead d q i .1)) (ap (λ (x : Stage). not (isOut x)) waits-out)
+
+    -- and if it did not hold before, that leave's answer lists its party
+    pub listed-then : (first : List AnyStep) (last : AnyStep) (q : ℕ) → In q (ahead d) → allLeft (others q d) ((runAny first s) .events) ≡ true
+        → (parties : List ℕ) → (moveAny last ((runAny first s) .state)) .event ≡ left q (done parties) → hasLeft ((runAny first s) .events) p ≡ false
+        → stageAt ((runAny first s) .state .desk) p ≢ Holding (lockFor K mode (take nameCount names)) → In p parties
+    listed-then first last q i all parties e stays not-yet =
+        granted-listed ((runAny first s) .state) q p (lockFor K mode (take nameCount names)) parties not-yet last e
+        (as-soon-as first last q i all (ap (isLeave q) e ∙ eq-eqb q q refl) stays)
+
+    -- SO AT MOST 31 LEAVES STAND BEFORE IT, those of the visits ahead: while it does not hold, of these fewer than all have left, whatever was done besides,
+    pub fewer-left : (steps : List AnyStep) → hasLeft ((runAny steps s) .events) p ≡ false
+        → stageAt ((runAny steps s) .state .desk) p ≢ Holding (lockFor K mode (take nameCount names))
+        → count (hasLeft ((runAny steps s) .events)) (ahead d) < length (ahead d)
+    fewer-left steps stays not-yet =
+        bool (allLeft (ahead d) ((runAny steps s) .events))
+        (λ all. absurd (not-yet (nobody-passed-over steps all stays)))
+        (λ some. count-fewer (hasLeft ((runAny steps s) .events)) (ahead d) some)
+
+    -- and so fewer than 31
+    pub before-31-leaves : (steps : List AnyStep) → hasLeft ((runAny steps s) .events) p ≡ false
+        → stageAt ((runAny steps s) .state .desk) p ≢ Holding (lockFor K mode (take nameCount names))
+        → count (hasLeft ((runAny steps s) .events)) (ahead d) < 31
+    before-31-leaves steps stays not-yet = omega (arith, fewer-left steps stays not-yet, at-most-31)
+
+    -- some party is ahead: at first, with nobody gone, it does not hold
+    pub some-ahead : 1 ≤ length (ahead d)
+    unfolding runAny any
+    some-ahead = omega (arith, fewer-left [] refl (λ e. let w = waits-first in not-both true refl cc))
+
+-- THE SAME OF A PARTY THAT WAITS ALREADY, at any sound desk, with all others that hold or wait there counted as ahead: as soon as these have left, it holds what it waits for
+module _ (K : Hierarchy) (s : State) (shape : Shaped (s .desk)) (sound : soundDesk K (s .desk) ≡ true) (p : ℕ) (l : Lock) (w : stageAt (s .desk) p ≡ Waiting l) where
+  pub nobody-passed-over-later : (steps : List AnyStep) → allLeft (others p (s .desk)) ((runAny steps s) .events) ≡ true → hasLeft ((runAny steps s) .events) p ≡ false
+      → stageAt ((runAny steps s) .state .desk) p ≡ Holding l
+  nobody-passed-over-later steps all stays =
+      run-holds p l steps s (λ q. In q (others p (s .desk)))
+      (record { shaped = shape; sound = (K, sound); standing = inr (record { waits = w; listed = mine; earlier = λ q b. waiter q b; holders = λ q h e c. holder q h e }) })
+      (λ q i. every-in (hasLeft ((runAny steps s) .events)) all i) stays
+    where
+      o : Orderly K (s .desk .entries) (queueOf (s .desk))
+      o = sound-orderly K (s .desk) (queueOf (s .desk)) (sound-reads K (s .desk) shape sound) (shape .entries) sound
+
+      mine : In p (queueOf (s .desk))
+      mine = o .listed p (omega (arith, waiter-below (s .desk .entries) p l w, shape .entries)) (ap isWaiting w)
+
+      other : (q : ℕ) → q ≢ p → q < 32 → isPresent (s .desk) q ≡ true → In q (others p (s .desk))
+      other q ne h e = in-keep (λ party. not (eqb party p)) (ahead-in (s .desk) q h e) (rw (ne-eqb q p ne))
+
+      waiter : (q : ℕ) → Before q p (queueOf (s .desk)) → In q (others p (s .desk))
+      waiter q b =
+          let i = before-in q p (queueOf (s .desk)) b in
+          other q (before-apart q p (queueOf (s .desk)) (o .once) b) (o .parties q i) (waiting-present (stageAt (s .desk) q) (o .waits q i))
+
+      holder : (q : ℕ) (h : Lock) → stageAt (s .desk) q ≡ Holding h → In q (others p (s .desk))
+      holder q h e =
+          other q (λ c. let v : stageAt (s .desk) p ≡ Holding h = rw c at e in not-both true refl cc)
+          (omega (arith, holder-below (s .desk .entries) q h e, shape .entries)) (ap (λ (x : Stage). not (isOut x)) e)
+
+  -- those are at most 31 too,
+  pub others-at-most-31 : length (others p (s .desk)) ≤ 31
+  others-at-most-31 =
+      let f : ℕ → Bool = λ party. not (eqb party p) in
+      let once : Distinct (p ∷ others p (s .desk)) =
+      (λ i. eqb-false p p (not-true (eqb p p) (keep-in f p (ahead (s .desk)) i .1)) refl, distinct-keep f (ahead (s .desk)) (ahead-once (s .desk))) in
+      let below : p < 32 = omega (arith, waiter-below (s .desk .entries) p l w, shape .entries) in
+      omega (arith, distinct-below 32 (p ∷ others p (s .desk)) once (λ q i. in-cons i (λ e. omega (arith, below)) (λ j. in-ahead (s .desk) q (keep-in f q (ahead (s .desk)) j .0) .0)))
+
+  -- and while it does not hold, fewer than 31 of them have left
+  pub later-before-31 : (steps : List AnyStep) → hasLeft ((runAny steps s) .events) p ≡ false → stageAt ((runAny steps s) .state .desk) p ≢ Holding l
+      → count (hasLeft ((runAny steps s) .events)) (others p (s .desk)) < 31
+  later-before-31 steps stays not-yet =
+      bool (allLeft (others p (s .desk)) ((runAny steps s) .events))
+      (λ all. absurd (not-yet (nobody-passed-over-later steps all stays)))
+      (λ some. omega (arith, count-fewer (hasLeft ((runAny steps s) .events)) (others p (s .desk)) some, others-at-most-31))

@@ -1,0 +1,69 @@
+-- WHO IS AHEAD of a call that waits, and WHO HAS LEFT since (02, point 8). Assumes nothing.
+use mathlib.Core.Path.{_≡_}
+use mathlib.Core.Logic.{_⊎_}
+use mathlib.Core.List.{List, [], _∷_, _++_}
+use mathlib.Core.Bool.{Bool, false, not, _&&_, _||_}
+use Prim.Native.Nat.{ℕ, zero, suc}
+use lib.Dec.{eqb}
+use Rattle.lists.specs.Lists.{every, any, keep}
+use Rattle.lists.specs.Answer.{done, refused}
+use Rattle.locks.specs.declared.Lock.{Lock}
+use Rattle.locks.specs.declared.Stage.{Stage}
+use Rattle.locks.specs.declared.Stage.the-variants.{Waiting, Holding}
+use Rattle.locks.specs.Stages.{isOut}
+use Rattle.desk.specs.declared.Desk.{Desk}
+use Rattle.desk.specs.Desks.{stageAt}
+use Rattle.runs.specs.Run.{Event, entered, got, stored, added, left}
+
+-- the numbers below n, lowest first
+unfoldable pub numbersBelow : ℕ → List ℕ
+numbersBelow zero = []
+numbersBelow (suc n) = numbersBelow n ++ (n ∷ [])
+
+-- the party is holding or waiting
+abbrev pub isPresent : Desk → ℕ → Bool
+isPresent d party = not (isOut (stageAt d party))
+
+-- the party is at this stage for this lock: it holds it, or waits for it
+abbrev pub IsFor : Lock → Stage → Type 0
+IsFor l x = (x ≡ Holding l) ⊎ (x ≡ Waiting l)
+
+-- WHO IS AHEAD of a call that begins to wait at the desk: the parties that are holding or waiting there, each with the one visit or call that it has there
+abbrev pub ahead : Desk → List ℕ
+ahead d = keep (isPresent d) (numbersBelow 32)
+
+-- of a party that waits at the desk already: all others that are holding or waiting there, those that came behind it too
+abbrev pub others : ℕ → Desk → List ℕ
+others p d = keep (λ party. not (eqb party p)) (ahead d)
+
+-- the event is a leave of the party that was not refused
+abbrev pub isLeave : ℕ → Event ℕ → Bool
+isLeave p (entered party a) = false
+isLeave p (got party node a) = false
+isLeave p (stored party node value a) = false
+isLeave p (added party node number a) = false
+isLeave p (left party (done granted)) = eqb party p
+isLeave p (left party (refused k)) = false
+
+-- the event is an enter of the party that was not refused: a visit or a waiting call of its begins
+abbrev pub isEnter : ℕ → Event ℕ → Bool
+isEnter p (entered party (done a)) = eqb party p
+isEnter p (entered party (refused k)) = false
+isEnter p (got party node a) = false
+isEnter p (stored party node value a) = false
+isEnter p (added party node number a) = false
+isEnter p (left party a) = false
+
+-- WHO HAS LEFT: a leave of the party that was not refused is among the events
+abbrev pub hasLeft : List (Event ℕ) → ℕ → Bool
+hasLeft events p = any (isLeave p) events
+
+-- all of the parties have
+abbrev pub allLeft : List ℕ → List (Event ℕ) → Bool
+allLeft parties events = every (hasLeft events) parties
+
+-- the visit or call that the party had before these events has left: such a leave stands among them before any enter of the party that was not refused, which would
+-- begin a later visit
+unfoldable pub visitLeft : List (Event ℕ) → ℕ → Bool
+visitLeft [] p = false
+visitLeft (e ∷ es) p = isLeave p e || (not (isEnter p e) && visitLeft es p)

@@ -1,0 +1,3 @@
+pub mod AnySteps
+pub mod Ahead
+pub mod Rules
