@@ -4,7 +4,7 @@ use mathlib.Core.Logic.{_⊎_, inl, inr, _≢_}
 use mathlib.Core.List.{List, [], _∷_, _++_, append-nil}
 use mathlib.Core.Bool.{Bool, true, false, not, _||_}
 use mathlib.Core.Option.{Option, none, some}
-use Prim.Native.Nat.{ℕ, zero, suc, _≤_, _<_}
+use Prim.Native.Nat.{ℕ, _≤_}
 use native.Mathlib.Omega.{arith}
 use lib.Dec.{eqb, ltb}
 use lib.ListN.{length, set, take, length-append}
@@ -32,20 +32,14 @@ use Rattle.desk.specs.Steps.{enterOwn, free, grantTo, queueLast, enterRefusal, 
 use Rattle.desk.specs.Steps.{leaveOwn, afterLeaving, leaveWith, leaveRefusal, leaveUnless, leaveStep}
 use Rattle.desk.proofs.Facts.{step-facts}
 use Rattle.runs.specs.Run.{lend, Call, enter, get, put, add, leave, State, Moved, afterEnter, afterGet, afterPut, afterAdd, listed, afterLeave, moveCall}
-use Rattle.history.proofs.Facts.{set-stage, holder-below, conflict-sym}
+use Rattle.history.proofs.Facts.{set-stage, holder-below, waiter-below, conflict-sym}
 use Rattle.soundness.proofs.Laws.{unchanged-get, unchanged-put, unchanged-add}
 use Rattle.soundness.proofs.Orderly.{Shaped, sound-reads, sound-held}
 use Rattle.soundness.proofs.Changes.{stage-same, stage-other}
+use Rattle.soundness.proofs.Covers.{enter-out}
 use Rattle.soundness.proofs.Kept.{enter-shaped, leave-shaped, enter-sound, leave-sound}
 use Rattle.fairness.specs.Ahead.{isLeave}
-use Rattle.fairness.proofs.Visits.{entered-out}
 use Rattle.fairness.proofs.Queues.{in-split, Before, before-in, before-snoc, before-around, before-here, before-keep, before-place, queue-made}
-
--- SOME FACTS. A party that waits has an entry
-pub waiter-below : (es : List Entry) (q : ℕ) (l : Lock) → stageIn es q ≡ Waiting l → q < length es
-waiter-below [] q l e = absurd (let z : _≡_ {A = ℕ} 0 1 = cc in omega arith)
-waiter-below (y ∷ es) zero l e = omega arith
-waiter-below (y ∷ es) (suc q) l e = let i : q < length es = waiter-below es q l e in omega arith
 
 -- what is against a lock, of a stage known
 against-holds : (l : Lock) (x : Stage) → againstHolder l x ≡ true → (h : Lock) × (x ≡ Holding h) × (conflict h l ≡ true)
@@ -257,7 +251,7 @@ module _ (p : ℕ) (l : Lock) where
             record {
               shaped = shape;
               sound = (K, sound);
-              standing = enter-standing g (free d g) refl (entered-out K d q names nameCount e)
+              standing = enter-standing g (free d g) refl (enter-out K d q mode names nameCount e)
                   (sound-few ((enterUnless none d q g) .desk) shape (K, sound) .1);
             }
 

@@ -28,15 +28,16 @@ use Rattle.desk.specs.Sound.{soundDesk}
 use Rattle.desk.specs.Steps.{waits, enterOwn, free, queueLast, enterRefusal, enterIf, enterUnless, enterStep}
 use Rattle.desk.proofs.Facts.{step-facts}
 use Rattle.runs.specs.Run.{Event, entered, got, stored, added, left, State, Moved, Ran, alsoRan}
-use Rattle.history.proofs.Facts.{set-stage, holder-below}
+use Rattle.history.proofs.Facts.{set-stage, holder-below, waiter-below}
 use Rattle.soundness.proofs.Orderly.{Shaped, Orderly, sound-reads, sound-orderly}
 use Rattle.soundness.proofs.Changes.{stage-same}
+use Rattle.soundness.proofs.Covers.{enter-out}
 use Rattle.soundness.proofs.Kept.{enter-shaped, enter-sound}
 use Rattle.fairness.specs.AnySteps.{AnyStep, moveAny, runAny}
 use Rattle.fairness.specs.Ahead.{numbersBelow, isPresent, ahead, others, isLeave, hasLeft, allLeft, visitLeft}
 use Rattle.fairness.proofs.Queues.{in-split, Before, before-in, before-apart, before-last, queue-made}
-use Rattle.fairness.proofs.Visits.{entered-out, hold-lasts, enter-present, comes-back, granted-listed}
-use Rattle.fairness.proofs.Behind.{waiter-below, sound-few, Behind, Standing, Kept, nobody-ahead, call-kept}
+use Rattle.fairness.proofs.Visits.{hold-lasts, enter-present, comes-back, granted-listed}
+use Rattle.fairness.proofs.Behind.{sound-few, Behind, Standing, Kept, nobody-ahead, call-kept}
 
 -- THOSE AHEAD. The numbers below n are those, each once
 below-in : (n p : ℕ) → p < n → In p (numbersBelow n)
@@ -185,7 +186,7 @@ module _ (K : Hierarchy) (d : Desk) (shape : Shaped d) (p : ℕ) (mode : Mode) (
           test true g a = not-both true refl cc
           test false g a =
               let f = step-facts K d p (ltb (length names) nameCount) (enterOwn K d p names nameCount) e in
-              began-waiting (f .sound) (f .party-below) (entered-out K d p names nameCount e)
+              began-waiting (f .sound) (f .party-below) (enter-out K d p mode names nameCount e)
               (subst (λ (b : Bool). Shaped ((enterIf b d p l) .desk)) g (subst (λ (o : Option ℕ). Shaped ((enterUnless o d p l) .desk)) e (enter-shaped K d p mode names nameCount shape)))
               (subst (λ (b : Bool). soundDesk K ((enterIf b d p l) .desk) ≡ true) g
               (subst (λ (o : Option ℕ). soundDesk K ((enterUnless o d p l) .desk) ≡ true) e (enter-sound K d p mode names nameCount shape (f .sound))))

@@ -20,7 +20,7 @@ use Rattle.runs.specs.Run.{restored, Step, entered, got, stored, added, State, 
 use Rattle.history.specs.Results.{Result, enter as entering, get as getting, put as putting, add as adding, leave as leaving, Meets, deskFrom, toldBy}
 use Rattle.history.proofs.Results.{lend-all, callFor, between, moved-alike, left-alike}
 use Rattle.soundness.proofs.Orderly.{Shaped}
-use Rattle.fairness.specs.AnySteps.{AnyStep, runAny, lentEach, Called, AllCalled, toldBack, deskAfter}
+use Rattle.fairness.specs.AnySteps.{AnyStep, runAny, lentEach, HostCall, CallsMeet, toldBack, deskAfter}
 use Rattle.fairness.specs.Ahead.{ahead, hasLeft, allLeft}
 use Rattle.fairness.proofs.Fairness.{nobody-passed-over, before-31-leaves}
 
@@ -41,7 +41,7 @@ run-passes-nobody K d shape p mode names nameCount answered s same steps =
     (nobody-passed-over K d shape p mode names nameCount answered s same (lentEach steps s))
 
 -- A HOST'S OWN CALL as a step: any buffer is lent of no values
-stepOf : Called → AnyStep
+stepOf : HostCall → AnyStep
 stepOf c = record { tables = c .tables; call = callFor [] (c .result) }
 
 -- one that meets its contract is that step
@@ -61,16 +61,16 @@ module _ (H K : Hierarchy) (d : Desk) where
   call-moves (leaving party list r after) (e, a, v) = moved-alike H (sym e) refl (left-alike party (sym v) (sym a))
 
 -- and so are all
-calls-run : (H : Hierarchy) (cs : List Called) (d : Desk) → AllCalled d cs
+calls-run : (H : Hierarchy) (cs : List HostCall) (d : Desk) → CallsMeet d cs
     → runAny (map stepOf cs) (between H d []) ≡ record { state = between H (deskAfter d cs) []; events = toldBack cs }
-unfolding AllCalled stepOf runAny alsoRan deskAfter
+unfolding CallsMeet stepOf runAny alsoRan deskAfter
 calls-run H [] d k = refl
 calls-run H (c ∷ cs) d (m, k) = rw (call-moves H (c .tables) d (c .result) m, calls-run H cs (deskFrom (c .result)) k) refl
 
 -- THE THEOREM OF RESULTS: an enter hands back its desk and answers `Waits`, any calls follow, and each result meets the contract of its method on the desk that the call
 -- before handed back, with any tables and buffers: where those ahead have left, by these very answers, the party holds at the last desk, unless it left
 module _ (K : Hierarchy) (d : Desk) (shape : Shaped d) (p : ℕ) (mode : Mode) (names : List ℕ) (nameCount : ℕ) (r : EnterStep) (met : Enters r (enterStep K d p mode names nameCount))
-    (answered : r .answer ≡ Waits) (calls : List Called) (all-met : AllCalled (r .desk) calls) where
+    (answered : r .answer ≡ Waits) (calls : List HostCall) (all-met : CallsMeet (r .desk) calls) where
   abbrev first : State
   first = between K (r .desk) []
 

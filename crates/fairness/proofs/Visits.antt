@@ -6,14 +6,13 @@ use mathlib.Core.List.{List, [], _∷_, _++_, map}
 use mathlib.Core.Bool.{Bool, true, false, not, true≢false}
 use mathlib.Core.Option.{Option, none, some}
 use Prim.Native.Nat.{ℕ}
-use lib.Dec.{eqb, ltb}
+use lib.Dec.{eqb}
 use lib.ListN.{length, set, take, drop}
 use lib.Seq.{take-append-seam}
-use borrow.Author.Tests.{eqb-true, eqb-false, ne-eqb, not-true, not-false}
+use borrow.Author.Tests.{eqb-true, eqb-false, ne-eqb, not-true}
 use Rattle.lists.specs.Lists.{any, keep, over}
 use Rattle.lists.specs.Answer.{done}
 use Rattle.lists.proofs.Bools.{bool, not-both, or-left, or-right, or-either}
-use Rattle.lists.proofs.Refusals.{refusal-none}
 use Rattle.lists.proofs.Members.{In, head, tail}
 use Rattle.locks.specs.declared.Mode.{Mode}
 use Rattle.locks.specs.declared.Lock.{Lock}
@@ -25,21 +24,14 @@ use Rattle.parties.specs.Parties.{entryOf, stageIn}
 use Rattle.sweeps.specs.Sweeps.{Sweep}
 use Rattle.desk.specs.declared.Desk.{Desk}
 use Rattle.desk.specs.Desks.{stageAt, queueOf}
-use Rattle.desk.specs.Steps.{enterOwn, free, enterRefusal, enterIf, enterUnless, enterStep, afterLeaving, leaveRefusal, leaveUnless, leaveStep}
-use Rattle.desk.proofs.Facts.{step-own}
+use Rattle.desk.specs.Steps.{free, enterRefusal, enterIf, enterUnless, enterStep, afterLeaving, leaveRefusal, leaveUnless, leaveStep}
 use Rattle.runs.specs.Run.{lend, Call, enter, get, put, add, leave, left, State, Moved, afterEnter, afterGet, afterPut, afterAdd, listed, afterLeave, moveCall, alsoRan}
 use Rattle.history.specs.History.{begun, visited}
 use Rattle.history.proofs.Facts.{stage-by, stage-own, set-stage, sweep-stage, sweep-holds}
 use Rattle.soundness.proofs.Laws.{unchanged-get, unchanged-put, unchanged-add}
-use Rattle.soundness.proofs.Kept.{is-out}
+use Rattle.soundness.proofs.Covers.{enter-out}
 use Rattle.fairness.specs.AnySteps.{AnyStep, moveAny, runAny}
 use Rattle.fairness.specs.Ahead.{isPresent, IsFor, isLeave, isEnter, hasLeft, visitLeft}
-
--- an enter that is not refused is of a party that is out
-pub entered-out : (K : Hierarchy) (d : Desk) (q : ℕ) (names : List ℕ) (nameCount : ℕ) → enterRefusal K d q names nameCount ≡ none → stageAt d q ≡ Out
-entered-out K d q names nameCount e =
-    let own = enterOwn K d q names nameCount in
-    is-out (stageAt d q) (not-false (isOut (stageAt d q)) (refusal-none own (step-own K d q (ltb (length names) nameCount) own e) .0))
 
 -- what a leave's pass starts from
 abbrev leaving : Desk → ℕ → Sweep
@@ -63,7 +55,7 @@ module _ (Q : Stage → Type 0) (up : (l : Lock) → Q (Waiting l) → Q (Holdin
 
       by : (o : Option ℕ) → enterRefusal K (s .desk) r names nameCount ≡ o → Lasts (afterEnter r s (enterUnless o (s .desk) r l))
       by (some j) e = (k, refl)
-      by none e = test (free (s .desk) l) (λ i. idle (subst Q (ap (stageAt (s .desk)) (sym i) ∙ entered-out K (s .desk) r names nameCount e) k))
+      by none e = test (free (s .desk) l) (λ i. idle (subst Q (ap (stageAt (s .desk)) (sym i) ∙ enter-out K (s .desk) r mode names nameCount e) k))
   call-lasts K (get r node v c) s k n = (rw (unchanged-get K (s .desk) r node (lend (s .values) v) c) k, refl)
   call-lasts K (put r node value v c) s k n = (rw (unchanged-put K (s .desk) r node value (lend (s .values) v) c) k, refl)
   call-lasts K (add r node number v c) s k n = (rw (unchanged-add K (s .desk) r node number (lend (s .values) v) c) k, refl)

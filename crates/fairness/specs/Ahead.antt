@@ -28,7 +28,8 @@ isPresent d party = not (isOut (stageAt d party))
 abbrev pub IsFor : Lock → Stage → Type 0
 IsFor l x = (x ≡ Holding l) ⊎ (x ≡ Waiting l)
 
--- WHO IS AHEAD of a call that begins to wait at the desk: the parties that are holding or waiting there, each with the one visit or call that it has there
+-- WHO IS AHEAD of a call that begins to wait at the desk: the parties that are holding or waiting there, each with the one visit that it has there. A visit begins with its enter
+-- here, also where that is answered `waits`, and ends with its leave
 abbrev pub ahead : Desk → List ℕ
 ahead d = keep (isPresent d) (numbersBelow 32)
 

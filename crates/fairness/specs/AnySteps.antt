@@ -26,21 +26,21 @@ lentEach [] s = []
 lentEach (x ∷ xs) s = record { tables = lentTo x (s .hierarchy); call = x .call } ∷ lentEach xs ((move x s) .state)
 
 -- a host's own call: the tables that it lent, and what it gave besides with the result
-pub record Called : Type 0 where
+pub record HostCall : Type 0 where
   pub tables : Hierarchy
   pub result : Result
 
 -- each call meets the contract of its method on the desk that the one before handed back. Of what get, put and add are lent of the values nothing is asked:
 -- any buffer is lent of no values
-unfoldable pub AllCalled : Desk → List Called → Type 0
-AllCalled d [] = Unit
-AllCalled d (c ∷ cs) = Meets (c .tables) d [] (c .result) × AllCalled (deskFrom (c .result)) cs
+unfoldable pub CallsMeet : Desk → List HostCall → Type 0
+CallsMeet d [] = Unit
+CallsMeet d (c ∷ cs) = Meets (c .tables) d [] (c .result) × CallsMeet (deskFrom (c .result)) cs
 
 -- what the calls were answered
-abbrev pub toldBack : List Called → List (Event ℕ)
+abbrev pub toldBack : List HostCall → List (Event ℕ)
 toldBack cs = map (λ c. toldBy (c .result)) cs
 
 -- the desk that the last one handed back
-unfoldable pub deskAfter : Desk → List Called → Desk
+unfoldable pub deskAfter : Desk → List HostCall → Desk
 deskAfter d [] = d
 deskAfter d (c ∷ cs) = deskAfter (deskFrom (c .result)) cs

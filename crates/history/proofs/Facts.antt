@@ -20,7 +20,7 @@ use Rattle.parties.specs.declared.Entry.{Entry}
 use Rattle.desk.specs.declared.Desk.{Desk}
 use Rattle.locks.specs.Locks.{conflict}
 use Rattle.locks.specs.Lent.{Hierarchy, lowIn, highIn, intervalWrong}
-use Rattle.locks.specs.Stages.{holdersConflict}
+use Rattle.locks.specs.Stages.{isOut, holdersConflict}
 use Rattle.parties.specs.Parties.{entryOf, stageIn, meetsHolder, meetsWaiter}
 use Rattle.parties.specs.Sound.{holdersApart}
 use Rattle.parties.proofs.Clauses.{clauses}
@@ -45,10 +45,17 @@ set-stage (y ∷ es) (suc p) (suc q) x h e = up (set-stage es p q x h e)
     up (inl g) = inl (ap suc (g .0), g .1)
     up (inr g) = inr g
 
+-- a party that is not out has an entry: one that holds, and one that waits
+there-below : (es : List Entry) (q : ℕ) → isOut (stageIn es q) ≡ false → q < length es
+there-below [] q e = absurd (true≢false e)
+there-below (y ∷ es) zero e = omega arith
+there-below (y ∷ es) (suc q) e = let i : q < length es = there-below es q e in omega arith
+
 pub holder-below : (es : List Entry) (q : ℕ) (h : Lock) → stageIn es q ≡ Holding h → q < length es
-holder-below [] q h e = absurd (let z : _≡_ {A = ℕ} 0 1 = cc in omega arith)
-holder-below (y ∷ es) zero h e = omega arith
-holder-below (y ∷ es) (suc q) h e = let i : q < length es = holder-below es q h e in omega arith
+holder-below es q h e = there-below es q (ap isOut e)
+
+pub waiter-below : (es : List Entry) (q : ℕ) (l : Lock) → stageIn es q ≡ Waiting l → q < length es
+waiter-below es q l e = there-below es q (ap isOut e)
 
 -- what holds of a party's stage holds after a store, where it holds of what is stored if that is the party's
 pub stage-by : (Q : Stage → Type 0) (es : List Entry) (q p : ℕ) (x : Stage) → (q ≡ p → Q x) → Q (stageIn es p) → Q (stageIn (set es q (entryOf x)) p)

@@ -1,5 +1,5 @@
 -- THEOREMS about the cover that enter takes (02, point 1). Assumes nothing.
-use mathlib.Core.Path.{_≡_, refl, ap, subst}
+use mathlib.Core.Path.{_≡_, refl, sym, ap, subst}
 use mathlib.Core.Logic.{_⊎_, inl, inr}
 use mathlib.Core.List.{List, [], _∷_}
 use mathlib.Core.Bool.{Bool, true, false, not}
@@ -9,7 +9,7 @@ use native.Mathlib.Omega.{arith}
 use lib.Dec.{ltb}
 use lib.ListN.{length, take, length-take}
 use lib.Seq.{length-take-le}
-use borrow.Author.Tests.{ltb-false}
+use borrow.Author.Tests.{ltb-false, not-false}
 use Rattle.lists.specs.Lists.{anyBelow}
 use Rattle.lists.specs.Answer.{Answer, done, refused, Check}
 use Rattle.intervals.specs.Cover.{intervalAt, callInterval, IsCover}
@@ -22,7 +22,9 @@ use Rattle.interval_laws.proofs.Laws.{call-bounds}
 use Rattle.interval_laws.proofs.Covers.{contains-ends, contains-by, cover-is, one-name-again}
 use Rattle.locks.specs.declared.Mode.{Mode}
 use Rattle.locks.specs.declared.Lock.{Lock}
-use Rattle.locks.specs.declared.Stage.the-variants.{Waiting, Holding}
+use Rattle.locks.specs.declared.Stage.{Stage}
+use Rattle.locks.specs.declared.Stage.the-variants.{Out, Waiting, Holding}
+use Rattle.locks.specs.Stages.{isOut}
 use Rattle.desk.specs.declared.Desk.{Desk}
 use Rattle.locks.specs.Lent.{Hierarchy, lowIn, highIn, coverIn, intervalWrong, namesWrong, lockFor, insideLock}
 use Rattle.locks.proofs.Tables.{not-wrong}
@@ -39,6 +41,12 @@ right-rooted H fine = record {
   ordered = right-ordered H fine;
   in-root = λ node h. let i = not-wrong H node fine h in contains-by (intervalAt (H .intervals) 0) (intervalAt (H .intervals) node) (i .1) (i .2);
 }
+
+-- a party that is out is so
+pub is-out : (x : Stage) → isOut x ≡ true → x ≡ Out
+is-out Out e = refl
+is-out (Waiting l) e = not-both true refl (sym e)
+is-out (Holding l) e = not-both true refl (sym e)
 
 -- AN ENTER THAT IS NOT REFUSED, over any tables and, but where said, any desk
 module _ (H : Hierarchy) (d : Desk) (party : ℕ) (mode : Mode) (names : List ℕ) (nameCount : ℕ) (fine : enterRefusal H d party names nameCount ≡ none) where
@@ -63,6 +71,10 @@ module _ (H : Hierarchy) (d : Desk) (party : ℕ) (mode : Mode) (names : List �
 
   rooted : Rooted (H .n) (H .intervals)
   rooted = right-rooted H (facts .intervals-right)
+
+  -- its party is out;
+  pub enter-out : stageAt d party ≡ Out
+  enter-out = is-out (stageAt d party) (not-false (isOut (stageAt d party)) (refusal-none own (step-own H d party _ own fine) .0))
 
   -- it has a name,
   pub enter-some : 1 ≤ length called

@@ -15,7 +15,6 @@ use Rattle.lists.specs.Answer.{Check}
 use Rattle.hierarchy.specs.Hierarchy.{sizeWrong}
 use Rattle.intervals.specs.Cover.{callInterval}
 use Rattle.lists.proofs.Bools.{bool, not-both, or-left}
-use Rattle.lists.proofs.Refusals.{refusal-none}
 use Rattle.lists.proofs.Bounded.{any-stop, any-none, none-of}
 use Rattle.lists.proofs.Members.{In}
 use Rattle.lists.proofs.Distinct.{any-some, any-in, every-of, in-front, in-between, distinct-between}
@@ -28,7 +27,7 @@ use Rattle.locks.specs.declared.Stage.the-variants.{Out, Waiting, Holding}
 use Rattle.naming.specs.Names.{ascending, namesOf, named}
 use Rattle.naming.proofs.Gathering.{ascending-most}
 use Rattle.locks.specs.Lent.{Hierarchy, lowIn, highIn, coverIn, lockFor, insideLock}
-use Rattle.locks.specs.Stages.{isOut, isWaiting, againstHolder, againstWaiter}
+use Rattle.locks.specs.Stages.{isWaiting, againstHolder, againstWaiter}
 use Rattle.locks.proofs.Tables.{not-wrong}
 use Rattle.parties.specs.declared.Entry.{Entry}
 use Rattle.parties.specs.Parties.{entryOf, stageIn, meetsHolder, meetsWaiter}
@@ -39,10 +38,10 @@ use Rattle.desk.specs.Desks.{stageAt, queueOf, freshDesk}
 use Rattle.desk.specs.Sound.{soundDesk}
 use Rattle.desk.specs.Steps.{leaveOwn, enterOwn, free, grantTo, queueLast, enterRefusal, enterIf, enterUnless}
 use Rattle.desk.specs.Steps.{enterStep, getStep, putStep, addStep, afterLeaving, leaveWith, leaveRefusal, leaveUnless, leaveStep}
-use Rattle.desk.proofs.Facts.{step-own, step-facts}
+use Rattle.desk.proofs.Facts.{step-facts}
 use Rattle.history.proofs.Facts.{sweep-length}
 use Rattle.soundness.proofs.Named.{ascending-rises, ascending-some, ascending-in, named-names}
-use Rattle.soundness.proofs.Covers.{enter-some, enter-few, enter-nodes, enter-covers}
+use Rattle.soundness.proofs.Covers.{enter-out, enter-some, enter-few, enter-nodes, enter-covers}
 use Rattle.soundness.proofs.Laws.{unchanged-get, unchanged-put, unchanged-add}
 use Rattle.soundness.proofs.Orderly.{Shaped, Reads, Orderly, HeldUp, sound-reads, sound-orderly, sound-held, made-sound}
 use Rattle.soundness.proofs.Changes.{Fit, stage-same, stage-other, waits-apart, called, ended, admitted, granted, still-meets, up-set, up-last}
@@ -99,11 +98,6 @@ cover-below : (H : Hierarchy) (names : List ℕ) → sizeWrong (H .n) ≡ false 
 cover-below H names sized = closest-below (H .intervals) (callInterval (H .intervals) names) (H .n) (right-size (H .n) sized .0)
 
 -- ENTER, of a party that is out, with a lock that may be held
-pub is-out : (x : Stage) → isOut x ≡ true → x ≡ Out
-is-out Out e = refl
-is-out (Waiting l) e = not-both true refl (sym e)
-is-out (Holding l) e = not-both true refl (sym e)
-
 against-waits : (l : Lock) (x : Stage) → againstWaiter l x ≡ true → isWaiting x ≡ true
 against-waits l Out t = t
 against-waits l (Waiting w) t = refl
@@ -208,8 +202,7 @@ enter-sound H d party mode names nameCount shape sound = by (enterRefusal H d pa
     by none e =
         let own : List Check = enterOwn H d party names nameCount in
         let f = step-facts H d party (ltb (length names) nameCount) own e in
-        let out = refusal-none own (step-own H d party (ltb (length names) nameCount) own e) .0 in
-        enter-if H d party l shape sound (f .party-below) (is-out (stageAt d party) (not-false (isOut (stageAt d party)) out)) (call-fit H d party mode names nameCount e) (free d l) refl
+        enter-if H d party l shape sound (f .party-below) (enter-out H d party mode names nameCount e) (call-fit H d party mode names nameCount e) (free d l) refl
 
 -- GET hands back the desk given, and so do put and add
 module _ (H : Hierarchy) (d : Desk) (party node : ℕ) where

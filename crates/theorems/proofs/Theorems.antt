@@ -46,7 +46,7 @@ use Rattle.desk.specs.Answers.{Enters, Gets, Puts, Adds, Leaves}
 use Rattle.history.specs.Results.{Result, enter, get, put, add, leave, Made, Meets, deskFrom, valuesFrom, AllMeet, toldByAll, lastDesk, lastValues}
 use Rattle.soundness.specs.Refused.{refusedWith}
 use Rattle.soundness.specs.Given.{givenIn, Keeps}
-use Rattle.fairness.specs.AnySteps.{AnyStep, moveAny, runAny, Called, AllCalled, toldBack, deskAfter}
+use Rattle.fairness.specs.AnySteps.{AnyStep, moveAny, runAny, HostCall, CallsMeet, toldBack, deskAfter}
 use Rattle.fairness.specs.Ahead.{isPresent, ahead, others, isLeave, isEnter, hasLeft, allLeft, visitLeft}
 use Rattle.fairness.specs.Rules.{paperRules, newcomersPass, fromTheBack, onlyHolders, NobodyPassedOver}
 use Rattle.file_laws.specs.Files.{eventsOf}
@@ -885,7 +885,7 @@ leave-ends = visits.leave-ends
 -- so that the visit or call that it had has left (a leave of its, not refused, stands before any enter of its that was not refused) just where it has taken any leave that was not refused,
 comes-back : (q : ℕ) (steps : List AnyStep) (s : State) → (stageAt (s .desk) q ≡ Out → ⊥) → let ran = runAny steps s in visitLeft (ran .events) q ≡ hasLeft (ran .events) q
 comes-back q steps s there =
-    visits.comes-back q steps s (bool (isOut (stageAt (s .desk) q)) (λ e. absurd (there (kept.is-out (stageAt (s .desk) q) e))) (λ e. rw e refl))
+    visits.comes-back q steps s (bool (isOut (stageAt (s .desk) q)) (λ e. absurd (there (entered.is-out (stageAt (s .desk) q) e))) (λ e. rw e refl))
 
 -- and what it does afterwards, or anybody else, changes nothing: once those ahead have left, the call holds until its own party leaves
 afterwards : (K : Hierarchy) (d : Desk) (p : ℕ) (mode : Mode) (names : List ℕ) (nameCount : ℕ) → Begins K d p mode names nameCount
@@ -914,19 +914,19 @@ run-passes-nobody K d p mode names nameCount (e, q, a) = hosts.run-passes-nobody
 lent-any : (buffer : List ℕ) → Lent [] buffer
 lent-any buffer = inr refl
 
-AnyContracts : Desk → List Called → Type 0
+AnyContracts : Desk → List HostCall → Type 0
 AnyContracts d [] = Unit
 AnyContracts d (c ∷ cs) = Contract (c .tables) d [] (c .result) × AnyContracts (deskFrom (c .result)) cs
 
 -- one from the other
-all-called : (d : Desk) (calls : List Called) → AnyContracts d calls → AllCalled d calls
-unfolding AllCalled AnyContracts
+all-called : (d : Desk) (calls : List HostCall) → AnyContracts d calls → CallsMeet d calls
+unfolding CallsMeet AnyContracts
 all-called d [] k = tt
 all-called d (c ∷ cs) (m, k) = (met (c .tables) d [] (c .result) m, all-called (deskFrom (c .result)) cs k)
 
 -- the enter's own does, and says `Waits`: by the answers of these very calls
 results-pass-nobody : (K : Hierarchy) (d : Desk) (p : ℕ) (mode : Mode) (names : List ℕ) (nameCount : ℕ) → length (d .entries) ≡ 32 → length (d .queue) ≡ 32
-    → (r : EnterStep) → Enters r (enterStep K d p mode names nameCount) → r .answer ≡ Waits → (calls : List Called) → AnyContracts (r .desk) calls
+    → (r : EnterStep) → Enters r (enterStep K d p mode names nameCount) → r .answer ≡ Waits → (calls : List HostCall) → AnyContracts (r .desk) calls
     → allLeft (ahead d) (toldBack calls) ≡ true → hasLeft (toldBack calls) p ≡ false
     → stageAt (deskAfter (r .desk) calls) p ≡ Holding (lockFor K mode (take nameCount names))
 results-pass-nobody K d p mode names nameCount e q r m a calls k =
