@@ -14,7 +14,7 @@ use Rattle.lists.specs.Lists.{keep}
 use Rattle.lists.proofs.Bools.{bool, not-both, or-right, or-either}
 use Rattle.lists.proofs.Bounded.{any-none}
 use Rattle.lists.proofs.Members.{In, in-cons}
-use Rattle.lists.proofs.Distinct.{any-some, any-in, any-found, in-place, in-front, in-either, in-keep, keep-in}
+use Rattle.lists.proofs.Distinct.{in-split, any-some, any-in, any-found, in-place, in-front, in-either, in-keep, keep-in}
 use Rattle.locks.specs.declared.Mode.{Mode}
 use Rattle.locks.specs.declared.Lock.{Lock}
 use Rattle.locks.specs.declared.Stage.{Stage}
@@ -39,7 +39,8 @@ use Rattle.soundness.proofs.Changes.{stage-same, stage-other}
 use Rattle.soundness.proofs.Covers.{enter-out}
 use Rattle.soundness.proofs.Kept.{enter-shaped, leave-shaped, enter-sound, leave-sound}
 use Rattle.fairness.specs.Ahead.{isLeave}
-use Rattle.fairness.proofs.Queues.{in-split, Before, before-in, before-snoc, before-around, before-here, before-keep, before-place, queue-made}
+use Rattle.fairness.proofs.Visits.{leaving}
+use Rattle.fairness.proofs.Queues.{Before, before-in, before-snoc, before-around, before-here, before-keep, before-place, queue-made}
 
 -- what is against a lock, of a stage known
 against-holds : (l : Lock) (x : Stage) → againstHolder l x ≡ true → (h : Lock) × (x ≡ Holding h) × (conflict h l ≡ true)
@@ -54,6 +55,13 @@ Sound d = (K : Hierarchy) × (soundDesk K d ≡ true)
 -- its arrival list is short enough
 pub sound-few : (d : Desk) → Shaped d → Sound d → (d .waiting ≡ length (queueOf d)) × (d .waiting ≤ 32)
 sound-few d shape (K, s) = let r = sound-reads K d shape s in (r .count, omega (arith, r .count, r .few))
+
+-- and one party longer where one more waits
+pub queue-last : (d : Desk) (q : ℕ) (g : Lock) → Shaped d → Sound d → (queueLast d q g) .waiting ≤ 32 → queueOf (queueLast d q g) ≡ queueOf d ++ (q ∷ [])
+queue-last d q g shape s few =
+    let c = sound-few d shape s in
+    let long = length-append (queueOf d) (q ∷ []) in
+    queue-made (queueLast d q g) (queueOf d ++ (q ∷ [])) refl (omega (arith, c, long)) (omega (arith, few, c, long))
 
 -- p waits for l or holds it
 module _ (p : ℕ) (l : Lock) where
@@ -226,10 +234,9 @@ module _ (p : ℕ) (l : Lock) where
             let a : conflict l g ≡ false = rw (b .waits) at none-at in
             not-both (conflict h l) c (ap (λ (x : Lock). conflict x l) (sym same) ∙ conflict-sym g l ∙ a)
     enter-standing g false f out few =
-        let c = sound-few d (k .shaped) (k .sound) in
         let ne = out-apart (d .entries) (queueOf d) q out (k .standing) in
         subst (λ (list : List ℕ). Standing S (set (d .entries) q (entryOf (Waiting g))) list)
-        (sym (queue-made (queueLast d q g) (queueOf d ++ (q ∷ [])) refl (omega (arith, c, length-append (queueOf d) (q ∷ []))) (omega (arith, few, c, length-append (queueOf d) (q ∷ [])))))
+        (sym (queue-last d q g (k .shaped) (k .sound) few))
         (changed S (d .entries) (queueOf d) (queueOf d ++ (q ∷ [])) q (Waiting g) ne (λ i. in-front (queueOf d) (q ∷ []) i) (λ r b. before-snoc r p q (queueOf d) ne b)
         (λ h e b m. not-both true refl cc) (k .standing))
 
@@ -270,7 +277,7 @@ module _ (p : ℕ) (l : Lock) where
           standing =
               subst (λ (stay : List ℕ). Standing T ((afterLeaving d q) .entries) stay)
               (sym (queue-made ((leaveWith (afterLeaving d q) d list) .desk) ((afterLeaving d q) .stay) refl refl (sound-few ((leaveUnless none d q list) .desk) shape (K, sound) .1)))
-              (sweep-standing T (keep (λ other. not (eqb other q)) (queueOf d)) (record { entries = set (d .entries) q (entryOf Out); stay = []; granted = [] })
+              (sweep-standing T (keep (λ other. not (eqb other q)) (queueOf d)) (leaving d q)
               (struck S (d .entries) (queueOf d) q ne (k .standing)));
         }
       where

@@ -7,37 +7,39 @@ use mathlib.Core.Option.{Option, none, some}
 use Prim.Native.Nat.{ℕ, zero, suc, _≤_, _<_}
 use native.Mathlib.Omega.{arith}
 use lib.Dec.{eqb, ltb}
-use lib.ListN.{length, set, take, length-append}
+use lib.ListN.{length, set, take}
 use borrow.Author.Tests.{eqb-true, eqb-false, eq-eqb, ne-eqb, not-true}
 use Rattle.lists.specs.Lists.{every, any, count}
-use Rattle.lists.specs.Answer.{done, refused}
+use Rattle.lists.specs.Answer.{Answer, done, refused}
 use Rattle.lists.proofs.Bools.{bool, not-both, or-left, or-right, or-either, or-neither}
 use Rattle.lists.proofs.Members.{In, in-nil, in-cons}
 use Rattle.lists.proofs.Loops.{count-most}
-use Rattle.lists.proofs.Distinct.{every-in, every-of, in-front, in-between, in-keep, keep-in, Distinct, distinct-last, distinct-keep, distinct-below}
+use Rattle.lists.proofs.Bounded.{any-append}
+use Rattle.lists.proofs.Distinct.{in-split, any-in, any-found, count-alike, every-in, every-of, in-front, in-between, in-keep, keep-in, Distinct, distinct-last, distinct-keep, distinct-below}
 use Rattle.locks.specs.declared.Mode.{Mode}
 use Rattle.locks.specs.declared.Lock.{Lock}
 use Rattle.locks.specs.declared.Stage.{Stage}
 use Rattle.locks.specs.declared.Stage.the-variants.{Out, Waiting, Holding}
-use Rattle.locks.specs.Stages.{isOut, isWaiting}
+use Rattle.locks.specs.Stages.{isOut, isWaiting, isHolding}
 use Rattle.locks.specs.Lent.{Hierarchy, lockFor}
 use Rattle.parties.specs.Parties.{entryOf}
 use Rattle.desk.specs.declared.Desk.{Desk}
 use Rattle.desk.specs.Desks.{stageAt, queueOf}
 use Rattle.desk.specs.Sound.{soundDesk}
-use Rattle.desk.specs.Steps.{waits, enterOwn, free, queueLast, enterRefusal, enterIf, enterUnless, enterStep}
+use Rattle.desk.specs.Steps.{Admission, waits, enterOwn, free, queueLast, enterRefusal, enterIf, enterUnless, enterStep}
 use Rattle.desk.proofs.Facts.{step-facts}
-use Rattle.runs.specs.Run.{Event, entered, got, stored, added, left, State, Moved, Ran, alsoRan}
+use Rattle.runs.specs.Run.{lend, Call, enter, get, put, add, leave, Event, entered, got, stored, added, left, State, Moved, afterEnter, afterGet, afterPut, afterAdd, afterLeave, moveCall, Ran, alsoRan}
 use Rattle.history.proofs.Facts.{set-stage, holder-below, waiter-below}
+use Rattle.history.proofs.Results.{or-second}
 use Rattle.soundness.proofs.Orderly.{Shaped, Orderly, sound-reads, sound-orderly}
 use Rattle.soundness.proofs.Changes.{stage-same}
 use Rattle.soundness.proofs.Covers.{enter-out}
-use Rattle.soundness.proofs.Kept.{enter-shaped, enter-sound}
-use Rattle.fairness.specs.AnySteps.{AnyStep, moveAny, runAny}
-use Rattle.fairness.specs.Ahead.{numbersBelow, isPresent, ahead, others, isLeave, hasLeft, allLeft, visitLeft}
-use Rattle.fairness.proofs.Queues.{in-split, Before, before-in, before-apart, before-last, queue-made}
+use Rattle.soundness.proofs.Kept.{enter-shaped, get-shaped, put-shaped, add-shaped, leave-shaped, enter-sound}
+use Rattle.fairness.specs.AnySteps.{AnyStep, enterWith, moveAny, runAny}
+use Rattle.fairness.specs.Ahead.{numbersBelow, isPresent, ahead, frontOf, inFront, others, isLeave, hasLeft, allLeft, visitLeft}
+use Rattle.fairness.proofs.Queues.{Before, before-in, before-last, before-front, front-in}
 use Rattle.fairness.proofs.Visits.{hold-lasts, enter-present, comes-back, granted-listed}
-use Rattle.fairness.proofs.Behind.{sound-few, Behind, Standing, Kept, nobody-ahead, call-kept}
+use Rattle.fairness.proofs.Behind.{sound-few, queue-last, Behind, Standing, Kept, nobody-ahead, call-kept}
 
 -- THOSE AHEAD. The numbers below n are those, each once
 below-in : (n p : ℕ) → p < n → In p (numbersBelow n)
@@ -69,7 +71,7 @@ ahead-in d q h e = in-keep (isPresent d) (below-in 32 q h) e
 pub in-ahead : (d : Desk) (q : ℕ) → In q (ahead d) → (q < 32) × (isPresent d q ≡ true)
 in-ahead d q i = let (j, e) = keep-in (isPresent d) q (numbersBelow 32) i in (in-below 32 q j, e)
 
--- each once, so that they are at most 32
+-- each once
 pub ahead-once : (d : Desk) → Distinct (ahead d)
 ahead-once d = distinct-keep (isPresent d) (numbersBelow 32) (distinct-numbers 32)
 
@@ -100,9 +102,7 @@ run-behind (x ∷ xs) ys s = ap (alsoRan (moveAny x s)) (run-behind xs ys ((move
 
 -- a party has left in the one or in the other
 pub left-behind : (xs ys : List (Event ℕ)) (q : ℕ) → hasLeft (xs ++ ys) q ≡ (hasLeft xs q || hasLeft ys q)
-unfolding any
-left-behind [] ys q = refl
-left-behind (x ∷ xs) ys q = bool (isLeave q x) (λ e. rw e refl) (λ e. rw e (left-behind xs ys q))
+left-behind xs ys q = any-append (isLeave q) xs ys
 
 -- an event is a leave of one party at most
 one-leaves : (q p : ℕ) (e : Event ℕ) → isLeave q e ≡ true → isLeave p e ≡ true → q ≡ p
@@ -138,10 +138,7 @@ module _ (K : Hierarchy) (d : Desk) (shape : Shaped d) (p : ℕ) (mode : Mode) (
   began-waiting : soundDesk K d ≡ true → p < 32 → stageAt d p ≡ Out → Shaped (queueLast d p l) → soundDesk K (queueLast d p l) ≡ true
       → Began K d p l (queueLast d p l)
   began-waiting s below out shape′ s′ =
-      let c = sound-few d shape (K, s) in
-      let few = sound-few (queueLast d p l) shape′ (K, s′) .1 in
-      let made : queueOf (queueLast d p l) ≡ queueOf d ++ (p ∷ []) =
-      queue-made (queueLast d p l) (queueOf d ++ (p ∷ [])) refl (omega (arith, c, length-append (queueOf d) (p ∷ []))) (omega (arith, few, c, length-append (queueOf d) (p ∷ []))) in
+      let made = queue-last d p l shape (K, s) (sound-few (queueLast d p l) shape′ (K, s′) .1) in
       record {
         party = below;
         out = out;
@@ -221,17 +218,21 @@ module _ (K : Hierarchy) (d : Desk) (shape : Shaped d) (p : ℕ) (mode : Mode) (
         run-holds p (lockFor K mode (take nameCount names)) steps s (λ q. In q (ahead d)) (rw same (began K d shape p mode names nameCount answered .kept))
         (λ q i. every-in (hasLeft ((runAny steps s) .events)) all i) stays
 
+    -- those ahead are still there then, and so is the party
+    ahead-there : (q : ℕ) → In q (ahead d) → isPresent (s .desk) q ≡ true
+    ahead-there q i = rw same (enter-present K d p mode names nameCount q (in-ahead d q i .1))
+
+    call-there : isPresent (s .desk) p ≡ true
+    call-there = ap (λ (x : Stage). not (isOut x)) waits-first
+
     -- THE SAME BY VISITS: where the visit or call that each of them had then has left, and the call has not
     pub no-visit-passed-over : (steps : List AnyStep) → ((q : ℕ) → In q (ahead d) → visitLeft ((runAny steps s) .events) q ≡ true)
         → visitLeft ((runAny steps s) .events) p ≡ false
         → stageAt ((runAny steps s) .state .desk) p ≡ Holding (lockFor K mode (take nameCount names))
     no-visit-passed-over steps all stays =
         nobody-passed-over steps
-        (every-of (hasLeft ((runAny steps s) .events)) (ahead d) (λ q i. sym (comes-back q steps s (there q i)) ∙ all q i))
-        (sym (comes-back p steps s (ap (λ (x : Stage). not (isOut x)) waits-first)) ∙ stays)
-      where
-        there : (q : ℕ) → In q (ahead d) → isPresent (s .desk) q ≡ true
-        there q i = rw same (enter-present K d p mode names nameCount q (in-ahead d q i .1))
+        (every-of (hasLeft ((runAny steps s) .events)) (ahead d) (λ q i. sym (comes-back q steps s (ahead-there q i)) ∙ all q i))
+        (sym (comes-back p steps s call-there) ∙ stays)
 
     -- what is done AFTERWARDS, by those ahead that come back too, changes nothing of it: it holds until its own party leaves
     pub afterwards : (first more : List AnyStep) → allLeft (ahead d) ((runAny first s) .events) ≡ true → hasLeft ((runAny (first ++ more) s) .events) p ≡ false
@@ -299,52 +300,144 @@ module _ (K : Hierarchy) (d : Desk) (shape : Shaped d) (p : ℕ) (mode : Mode) (
         → count (hasLeft ((runAny steps s) .events)) (ahead d) < 31
     before-31-leaves steps stays not-yet = omega (arith, fewer-left steps stays not-yet, at-most-31)
 
+    -- the same by visits
+    pub visits-before : (steps : List AnyStep) → visitLeft ((runAny steps s) .events) p ≡ false
+        → stageAt ((runAny steps s) .state .desk) p ≢ Holding (lockFor K mode (take nameCount names))
+        → (count (visitLeft ((runAny steps s) .events)) (ahead d) < 31) × (count (visitLeft ((runAny steps s) .events)) (ahead d) < length (ahead d))
+    visits-before steps stays not-yet =
+        let events = (runAny steps s) .events in
+        let same-count = count-alike (visitLeft events) (hasLeft events) (ahead d) (λ q i. comes-back q steps s (ahead-there q i)) in
+        let stays′ = sym (comes-back p steps s call-there) ∙ stays in
+        (omega (arith, same-count, before-31-leaves steps stays′ not-yet), omega (arith, same-count, fewer-left steps stays′ not-yet))
+
     -- some party is ahead: at first, with nobody gone, it does not hold
     pub some-ahead : 1 ≤ length (ahead d)
     unfolding runAny any
     some-ahead = omega (arith, fewer-left [] refl (λ e. let w = waits-first in not-both true refl cc))
 
--- THE SAME OF A PARTY THAT WAITS ALREADY, at any sound desk, with all others that hold or wait there counted as ahead: as soon as these have left, it holds what it waits for
+-- IN THE MIDDLE OF A LIST, too. A step leaves a desk of 32 entries and 32 places as such, and so does a list
+call-shaped : (K : Hierarchy) (c : Call) (s : State) → Shaped (s .desk) → Shaped ((moveCall K c s) .state .desk)
+unfolding moveCall afterEnter afterGet afterPut afterAdd afterLeave
+call-shaped K (enter q mode names nameCount) s shape = enter-shaped K (s .desk) q mode names nameCount shape
+call-shaped K (get q node v c) s shape = get-shaped K (s .desk) q node (lend (s .values) v) c shape
+call-shaped K (put q node value v c) s shape = put-shaped K (s .desk) q node value (lend (s .values) v) c shape
+call-shaped K (add q node number v c) s shape = add-shaped K (s .desk) q node number (lend (s .values) v) c shape
+call-shaped K (leave q list) s shape = leave-shaped K (s .desk) q list shape
+
+pub run-shaped : (steps : List AnyStep) (s : State) → Shaped (s .desk) → Shaped ((runAny steps s) .state .desk)
+unfolding runAny alsoRan
+run-shaped [] s shape = shape
+run-shaped (x ∷ xs) s shape = run-shaped xs ((moveAny x s) .state) (call-shaped (x .tables) (x .call) s shape)
+
+-- the answer of an enter, from what is told of it
+answerTold : Event ℕ → Answer Admission
+answerTold (entered party a) = a
+answerTold (got party node a) = refused 0
+answerTold (stored party node value a) = refused 0
+answerTold (added party node number a) = refused 0
+answerTold (left party a) = refused 0
+
+-- any steps from any such desk, a call that is told to wait, any steps behind it: where the visits that those had who held or waited before the call have left, and the call has not, it holds
+pub in-a-list : (s : State) → Shaped (s .desk) → (before after : List AnyStep) (K : Hierarchy) (p : ℕ) (mode : Mode) (names : List ℕ) (nameCount : ℕ)
+    → let call = enterWith K p mode names nameCount in let was = (runAny before s) .state in let told = moveAny call was in
+    told .event ≡ entered p (done waits) → let ran = runAny after (told .state) in
+    ((q : ℕ) → In q (ahead (was .desk)) → visitLeft (ran .events) q ≡ true) → visitLeft (ran .events) p ≡ false
+    → stageAt ((runAny (before ++ (call ∷ after)) s) .state .desk) p ≡ Holding (lockFor K mode (take nameCount names))
+unfolding moveCall afterEnter runAny alsoRan answerTold
+in-a-list s shape before after K p mode names nameCount told all stays =
+    let call = enterWith K p mode names nameCount in
+    let was = (runAny before s) .state in
+    ap (λ (r : Ran). stageAt (r .state .desk) p) (run-behind before (call ∷ after) s)
+    ∙ no-visit-passed-over K (was .desk) (run-shaped before s shape) p mode names nameCount (ap answerTold told) ((moveAny call was) .state) refl after all stays
+
+-- THE SAME OF A PARTY THAT WAITS ALREADY, at any sound desk
 module _ (K : Hierarchy) (s : State) (shape : Shaped (s .desk)) (sound : soundDesk K (s .desk) ≡ true) (p : ℕ) (l : Lock) (w : stageAt (s .desk) p ≡ Waiting l) where
-  pub nobody-passed-over-later : (steps : List AnyStep) → allLeft (others p (s .desk)) ((runAny steps s) .events) ≡ true → hasLeft ((runAny steps s) .events) p ≡ false
+  abbrev d : Desk
+  d = s .desk
+
+  orderly : Orderly K (d .entries) (queueOf d)
+  orderly = sound-orderly K d (queueOf d) (sound-reads K d shape sound) (shape .entries) sound
+
+  below : p < 32
+  below = omega (arith, waiter-below (d .entries) p l w, shape .entries)
+
+  -- who is in front of it
+  abbrev inTheWay : ℕ → Bool
+  inTheWay party = isHolding (stageAt d party) || any (eqb party) (frontOf p (queueOf d))
+
+  -- as soon as those who hold, and those who wait before it, have left, it holds what it waits for, unless it left
+  pub waiter-not-passed-over : (steps : List AnyStep) → allLeft (inFront p d) ((runAny steps s) .events) ≡ true → hasLeft ((runAny steps s) .events) p ≡ false
       → stageAt ((runAny steps s) .state .desk) p ≡ Holding l
-  nobody-passed-over-later steps all stays =
-      run-holds p l steps s (λ q. In q (others p (s .desk)))
-      (record { shaped = shape; sound = (K, sound); standing = inr (record { waits = w; listed = mine; earlier = λ q b. waiter q b; holders = λ q h e c. holder q h e }) })
+  waiter-not-passed-over steps all stays =
+      run-holds p l steps s (λ q. In q (inFront p d))
+      (record {
+        shaped = shape;
+        sound = (K, sound);
+        standing = inr (record { waits = w; listed = orderly .listed p below (ap isWaiting w); earlier = λ q b. waiter q b; holders = λ q h e c. holder q h e });
+      })
       (λ q i. every-in (hasLeft ((runAny steps s) .events)) all i) stays
     where
-      o : Orderly K (s .desk .entries) (queueOf (s .desk))
-      o = sound-orderly K (s .desk) (queueOf (s .desk)) (sound-reads K (s .desk) shape sound) (shape .entries) sound
-
-      mine : In p (queueOf (s .desk))
-      mine = o .listed p (omega (arith, waiter-below (s .desk .entries) p l w, shape .entries)) (ap isWaiting w)
-
-      other : (q : ℕ) → q ≢ p → q < 32 → isPresent (s .desk) q ≡ true → In q (others p (s .desk))
-      other q ne h e = in-keep (λ party. not (eqb party p)) (ahead-in (s .desk) q h e) (rw (ne-eqb q p ne))
-
-      waiter : (q : ℕ) → Before q p (queueOf (s .desk)) → In q (others p (s .desk))
+      waiter : (q : ℕ) → Before q p (queueOf d) → In q (inFront p d)
       waiter q b =
-          let i = before-in q p (queueOf (s .desk)) b in
-          other q (before-apart q p (queueOf (s .desk)) (o .once) b) (o .parties q i) (waiting-present (stageAt (s .desk) q) (o .waits q i))
+          in-keep inTheWay (below-in 32 q (orderly .parties q (before-in q p (queueOf d) b)))
+          (or-second (isHolding (stageAt d q)) (any (eqb q) (frontOf p (queueOf d))) (any-in (eqb q) (before-front q p (queueOf d) (orderly .once) b) (eq-eqb q q refl)))
 
-      holder : (q : ℕ) (h : Lock) → stageAt (s .desk) q ≡ Holding h → In q (others p (s .desk))
-      holder q h e =
-          other q (λ c. let v : stageAt (s .desk) p ≡ Holding h = rw c at e in not-both true refl cc)
-          (omega (arith, holder-below (s .desk .entries) q h e, shape .entries)) (ap (λ (x : Stage). not (isOut x)) e)
+      holder : (q : ℕ) (h : Lock) → stageAt d q ≡ Holding h → In q (inFront p d)
+      holder q h e = in-keep inTheWay (below-in 32 q (omega (arith, holder-below (d .entries) q h e, shape .entries))) (rw e refl)
 
-  -- those are at most 31 too,
-  pub others-at-most-31 : length (others p (s .desk)) ≤ 31
-  others-at-most-31 =
-      let f : ℕ → Bool = λ party. not (eqb party p) in
-      let once : Distinct (p ∷ others p (s .desk)) =
-      (λ i. eqb-false p p (not-true (eqb p p) (keep-in f p (ahead (s .desk)) i .1)) refl, distinct-keep f (ahead (s .desk)) (ahead-once (s .desk))) in
-      let below : p < 32 = omega (arith, waiter-below (s .desk .entries) p l w, shape .entries) in
-      omega (arith, distinct-below 32 (p ∷ others p (s .desk)) once (λ q i. in-cons i (λ e. omega (arith, below)) (λ j. in-ahead (s .desk) q (keep-in f q (ahead (s .desk)) j .0) .0)))
+  -- they are some of the others who hold or wait there,
+  pub in-front-others : (q : ℕ) → In q (inFront p d) → In q (others p d)
+  in-front-others q i =
+      let (j, t) = keep-in inTheWay q (numbersBelow 32) i in
+      or-either (isHolding (stageAt d q)) (any (eqb q) (frontOf p (queueOf d))) t
+      (λ h. other q (λ e. not-both (isHolding (stageAt d p)) (subst (λ (k : ℕ). isHolding (stageAt d k) ≡ true) e h) (ap isHolding w)) (in-below 32 q j) (holding-present (stageAt d q) h))
+      (λ a. let (r, m, e) = any-found (eqb q) (frontOf p (queueOf d)) a in
+      let (k, ne) = front-in q p (queueOf d) (subst (λ (x : ℕ). In x (frontOf p (queueOf d))) (sym (eqb-true q r e)) m) in
+      other q ne (in-below 32 q j) (waiting-present (stageAt d q) (orderly .waits q k)))
+    where
+      other : (r : ℕ) → r ≢ p → r < 32 → isPresent d r ≡ true → In r (others p d)
+      other r ne h e = in-keep (λ party. not (eqb party p)) (ahead-in d r h e) (rw (ne-eqb r p ne))
 
-  -- and while it does not hold, fewer than 31 of them have left
+      holding-present : (x : Stage) → isHolding x ≡ true → not (isOut x) ≡ true
+      holding-present Out e = e
+      holding-present (Waiting g) e = refl
+      holding-present (Holding g) e = refl
+
+  -- so it is so, too, as soon as all others have left
+  pub nobody-passed-over-later : (steps : List AnyStep) → allLeft (others p d) ((runAny steps s) .events) ≡ true → hasLeft ((runAny steps s) .events) p ≡ false
+      → stageAt ((runAny steps s) .state .desk) p ≡ Holding l
+  nobody-passed-over-later steps all stays =
+      waiter-not-passed-over steps
+      (every-of (hasLeft ((runAny steps s) .events)) (inFront p d) (λ q i. every-in (hasLeft ((runAny steps s) .events)) all (in-front-others q i))) stays
+
+  -- both are at most 31,
+  pub others-at-most-31 : (length (others p d) ≤ 31) × (length (inFront p d) ≤ 31)
+  others-at-most-31 = (
+    few (others p d) (distinct-keep (λ party. not (eqb party p)) (ahead d) (ahead-once d)) (λ q i. i),
+    few (inFront p d) (distinct-keep inTheWay (numbersBelow 32) (distinct-numbers 32)) in-front-others,
+  )
+    where
+      few : (xs : List ℕ) → Distinct xs → ((q : ℕ) → In q xs → In q (others p d)) → length xs ≤ 31
+      few xs once each =
+          let apart : In p xs → ⊥ = λ i. eqb-false p p (not-true (eqb p p) (keep-in (λ party. not (eqb party p)) p (ahead d) (each p i) .1)) refl in
+          omega (
+            arith,
+            distinct-below 32 (p ∷ xs) (apart, once)
+                (λ q i. in-cons i (λ e. omega (arith, below)) (λ j. in-ahead d q (keep-in (λ party. not (eqb party p)) q (ahead d) (each q j) .0) .0)),
+          )
+
+  -- and while it does not hold, fewer than 31 of either have left
   pub later-before-31 : (steps : List AnyStep) → hasLeft ((runAny steps s) .events) p ≡ false → stageAt ((runAny steps s) .state .desk) p ≢ Holding l
-      → count (hasLeft ((runAny steps s) .events)) (others p (s .desk)) < 31
+      → (count (hasLeft ((runAny steps s) .events)) (others p d) < 31) × (count (hasLeft ((runAny steps s) .events)) (inFront p d) < 31)
   later-before-31 steps stays not-yet =
-      bool (allLeft (others p (s .desk)) ((runAny steps s) .events))
-      (λ all. absurd (not-yet (nobody-passed-over-later steps all stays)))
-      (λ some. omega (arith, count-fewer (hasLeft ((runAny steps s) .events)) (others p (s .desk)) some, others-at-most-31))
+      let (most, most′) = others-at-most-31 in (
+        fewer (others p d) most (λ all. nobody-passed-over-later steps all stays),
+        fewer (inFront p d) most′ (λ all. waiter-not-passed-over steps all stays),
+      )
+    where
+      fewer : (xs : List ℕ) → length xs ≤ 31 → (allLeft xs ((runAny steps s) .events) ≡ true → stageAt ((runAny steps s) .state .desk) p ≡ Holding l)
+          → count (hasLeft ((runAny steps s) .events)) xs < 31
+      fewer xs few holds =
+          bool (allLeft xs ((runAny steps s) .events))
+          (λ all. absurd (not-yet (holds all)))
+          (λ some. omega (arith, count-fewer (hasLeft ((runAny steps s) .events)) xs some, few))

@@ -16,16 +16,20 @@ use Rattle.desk.specs.declared.EnterAnswer.the-variants.{Waits}
 use Rattle.desk.specs.Desks.{stageAt}
 use Rattle.desk.specs.Steps.{waits, enterStep, getStep, putStep, addStep}
 use Rattle.desk.specs.Answers.{Enters, enterMeaning}
-use Rattle.runs.specs.Run.{restored, Step, entered, got, stored, added, State, afterEnter, afterGet, afterPut, afterAdd, afterLeave, moveCall, move, Ran, alsoRan, run}
+use Rattle.runs.specs.Run.{restored, Step, lentTo, entered, got, stored, added, State, afterEnter, afterGet, afterPut, afterAdd, afterLeave, moveCall, move, Ran, alsoRan, run}
 use Rattle.history.specs.Results.{Result, enter as entering, get as getting, put as putting, add as adding, leave as leaving, Meets, deskFrom, toldBy}
 use Rattle.history.proofs.Results.{lend-all, callFor, between, moved-alike, left-alike}
 use Rattle.soundness.proofs.Orderly.{Shaped}
-use Rattle.fairness.specs.AnySteps.{AnyStep, runAny, lentEach, HostCall, CallsMeet, toldBack, deskAfter}
+use Rattle.fairness.specs.AnySteps.{AnyStep, runAny, HostCall, CallsMeet, toldBack, deskAfter}
 use Rattle.fairness.specs.Ahead.{ahead, hasLeft, allLeft}
 use Rattle.fairness.proofs.Fairness.{nobody-passed-over, before-31-leaves}
 
--- A LIST OVER ONE HIERARCHY is such a list
-pub run-any : (steps : List Step) (s : State) → run steps s ≡ runAny (lentEach steps s) s
+-- A LIST OVER ONE HIERARCHY is such a list: its steps, each with the tables as it is lent them
+lentEach : List Step → State → List AnyStep
+lentEach [] s = []
+lentEach (x ∷ xs) s = record { tables = lentTo x (s .hierarchy); call = x .call } ∷ lentEach xs ((move x s) .state)
+
+run-any : (steps : List Step) (s : State) → run steps s ≡ runAny (lentEach steps s) s
 unfolding run runAny lentEach move
 run-any [] s = refl
 run-any (x ∷ xs) s = ap (alsoRan (move x s)) (run-any xs ((move x s) .state))

@@ -5,24 +5,18 @@ use mathlib.Core.List.{List, [], _∷_, _++_}
 use mathlib.Core.Bool.{Bool}
 use Prim.Native.Nat.{ℕ, zero, suc, _≤_, _<_}
 use native.Mathlib.Omega.{arith}
+use lib.Dec.{eqb}
 use lib.ListN.{length, getD, take}
+use borrow.Author.Tests.{eqb-false, ne-eqb}
 use Rattle.lists.specs.Lists.{keep}
 use Rattle.lists.proofs.Bools.{bool}
 use Rattle.lists.proofs.Members.{In, head, tail, in-nil, in-cons}
-use Rattle.lists.proofs.Distinct.{in-around, place-in, keep-in, Distinct}
+use Rattle.lists.proofs.Distinct.{in-split, in-around, place-in, keep-in, Distinct}
 use Rattle.arrivals.specs.Arrivals.{queuePlaces}
-use Rattle.arrivals.proofs.Queues.{places-take}
+use Rattle.arrivals.proofs.Queues.{listed-take}
 use Rattle.desk.specs.declared.Desk.{Desk}
 use Rattle.desk.specs.Desks.{queueOf}
-
--- A MEMBER of two lists joined is one of the first or of the second
-pub in-split : {x : ℕ} (xs ys : List ℕ) → In x (xs ++ ys) → In x xs ⊎ In x ys
-in-split [] ys i = inr i
-in-split {x} (z ∷ xs) ys i = in-cons i (λ e. inl (subst (λ (k : ℕ). In k (z ∷ xs)) e head)) (λ j. up (in-split xs ys j))
-  where
-    up : In x xs ⊎ In x ys → In x (z ∷ xs) ⊎ In x ys
-    up (inl j) = inl (tail j)
-    up (inr j) = inr j
+use Rattle.fairness.specs.Ahead.{frontOf}
 
 -- q STANDS BEFORE p in a list
 abbrev pub Before : ℕ → ℕ → List ℕ → Type 0
@@ -32,11 +26,6 @@ Before q p (x ∷ xs) = ((x ≡ q) × In p xs) ⊎ Before q p xs
 pub before-in : (q p : ℕ) (xs : List ℕ) → Before q p xs → In q xs
 before-in q p (x ∷ xs) (inl (e, i)) = subst (λ (k : ℕ). In k (x ∷ xs)) e head
 before-in q p (x ∷ xs) (inr b) = tail (before-in q p xs b)
-
--- in a list of different parties nobody stands before itself
-pub before-apart : (q p : ℕ) (xs : List ℕ) → Distinct xs → Before q p xs → q ≢ p
-before-apart q p (x ∷ xs) s (inl (e, i)) c = s .0 (subst (λ (k : ℕ). In k xs) (sym c ∙ sym e) i)
-before-apart q p (x ∷ xs) s (inr b) c = before-apart q p xs (s .1) b c
 
 -- whoever stands before the last of a list is among the others
 pub before-last : (q p y : ℕ) (xs : List ℕ) → Before q p (xs ++ (y ∷ [])) → In q xs
@@ -83,6 +72,32 @@ before-place q i [] h m = absurd (omega arith)
 before-place q zero (x ∷ xs) h m = in-nil m
 before-place q (suc i) (x ∷ xs) h m = in-cons m (λ e. inl (e, place-in xs i (omega arith))) (λ j. inr (before-place q i xs (omega arith) j))
 
+-- THE FRONT of a list before a party: in a list of different parties, whoever stands before it is there,
+pub before-front : (q p : ℕ) (xs : List ℕ) → Distinct xs → Before q p xs → In q (frontOf p xs)
+unfolding frontOf
+before-front q p (x ∷ xs) s b = rw (ne-eqb x p (λ e. s .0 (subst (λ (k : ℕ). In k xs) (sym e) (behind-it b)))) (by (before-front q p xs (s .1)) b)
+  where
+    later : (ys : List ℕ) → Before q p ys → In p ys
+    later (y ∷ ys) (inl (e, i)) = tail i
+    later (y ∷ ys) (inr c) = tail (later ys c)
+
+    behind-it : Before q p (x ∷ xs) → In p xs
+    behind-it (inl (e, i)) = i
+    behind-it (inr c) = later xs c
+
+    by : (Before q p xs → In q (frontOf p xs)) → Before q p (x ∷ xs) → In q (x ∷ frontOf p xs)
+    by rest (inl (e, i)) = subst (λ (k : ℕ). In k (x ∷ frontOf p xs)) e head
+    by rest (inr c) = tail (rest c)
+
+-- one of the front is another than the party, and one of the list
+pub front-in : (q p : ℕ) (xs : List ℕ) → In q (frontOf p xs) → In q xs × (q ≢ p)
+unfolding frontOf
+front-in q p [] i = in-nil i
+front-in q p (x ∷ xs) i =
+    bool (eqb x p)
+    (λ e. in-nil (rw e at i))
+    (λ e. in-cons (rw e at i) (λ c. (subst (λ (k : ℕ). In k (x ∷ xs)) c head, λ f. eqb-false x p e (c ∙ f))) (λ j. let (k, ne) = front-in q p xs j in (tail k, ne)))
+
 -- A DESK MADE OF A LIST has that arrival list, where the 32 places hold it
 pub queue-made : (d : Desk) (list : List ℕ) → d .queue ≡ queuePlaces list → d .waiting ≡ length list → length list ≤ 32 → queueOf d ≡ list
-queue-made d list e w few = rw (e, w) (places-take list few)
+queue-made d list e w few = listed-take (record { places = d .queue; count = d .waiting }) list (e, w) few

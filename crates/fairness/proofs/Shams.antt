@@ -1,5 +1,5 @@
--- THEOREMS: that nobody is passed over is the desk's doing. It holds by the paper's rules, and is false of a desk that lets newcomers pass, of one that takes the waiters from the
--- back, and where only the holders count as ahead (02, point 8). Assumes nothing.
+-- THEOREMS: that nobody is passed over is the rules' doing. It holds by the paper's, and is false of a desk that lets newcomers pass waiters that they conflict with, of one that takes the
+-- waiters from the back, and where only the holders count as ahead (02, point 8). Assumes nothing.
 use mathlib.Core.Path.{_≡_, refl, sym, ap, _∙_, subst}
 use mathlib.Core.List.{List, [], _∷_}
 use mathlib.Core.Bool.{true, false}
@@ -7,16 +7,15 @@ use mathlib.Core.Option.{Option, none, some}
 use Prim.Native.Nat.{ℕ}
 use lib.ListN.{take}
 use Rattle.lists.specs.Lists.{allBelow, anyBelow, every, any, keep, over, foldFrom, least, greatest}
-use Rattle.lists.specs.Answer.{refusal}
+use Rattle.lists.specs.Answer.{done, refusal}
 use Rattle.lists.proofs.Bools.{not-both}
 use Rattle.hierarchy.specs.Hierarchy.{someEdge}
 use Rattle.intervals.specs.Cover.{closest}
 use Rattle.naming.specs.Names.{insert, insertAll, risesFrom}
-use Rattle.locks.specs.declared.Mode.{Mode}
 use Rattle.locks.specs.declared.Mode.the-variants.{Reading, Writing}
 use Rattle.locks.specs.declared.Lock.{Lock}
 use Rattle.locks.specs.declared.Stage.{Stage}
-use Rattle.locks.specs.declared.Stage.the-variants.{Out, Waiting, Holding}
+use Rattle.locks.specs.declared.Stage.the-variants.{Waiting, Holding}
 use Rattle.locks.specs.Stages.{isWaiting}
 use Rattle.locks.specs.Lent.{Hierarchy, lockFor}
 use Rattle.parties.specs.Sound.{soundParties}
@@ -24,13 +23,13 @@ use Rattle.sweeps.specs.Sweeps.{offer, sweep}
 use Rattle.grants.specs.Grants.{countGrants}
 use Rattle.desk.specs.declared.Desk.{Desk}
 use Rattle.desk.specs.Desks.{stageAt}
-use Rattle.desk.specs.Steps.{enterRefusal, enterUnless, enterStep, leaveRefusal, leaveUnless, leaveStep}
-use Rattle.runs.specs.Run.{Call, enter, get, put, add, leave, State, afterEnter, listed, afterLeave, moveCall, Ran, alsoRan}
+use Rattle.desk.specs.Steps.{granted, waits, enterRefusal, enterUnless, enterStep, leaveRefusal, leaveUnless, leaveStep}
+use Rattle.runs.specs.Run.{Call, enter, get, put, add, leave, entered, left, State, afterEnter, listed, afterLeave, moveCall, Ran, alsoRan}
 use Rattle.fairness.specs.AnySteps.{AnyStep, runAny}
 use Rattle.fairness.specs.Ahead.{numbersBelow, ahead, hasLeft, allLeft}
 use Rattle.fairness.specs.Rules.{paperRules, newcomersPass, fromTheBack, onlyHolders, enterBy, leaveBy, moveBy, runBy, NobodyPassedOver}
 use Rattle.fairness.proofs.Fairness.{nobody-passed-over}
-use Rattle.fairness.proofs.Written.{lock, desk, at, comes, goes}
+use Rattle.fairness.proofs.Written.{desk, one, whole, at, comes, goes}
 
 -- BY THE PAPER'S RULES a step is the desk's: enter,
 enter-same : (o : Option ℕ) (d : Desk) (party : ℕ) (l : Lock) → enterBy paperRules o d party l ≡ enterUnless o d party l
@@ -67,45 +66,66 @@ paper-passes-nobody K d entries queue p mode names nameCount answered s same ste
     subst (λ (ran : Ran). allLeft (ahead d) (ran .events) ≡ true → hasLeft (ran .events) p ≡ false → stageAt (ran .state .desk) p ≡ Holding l) (sym (run-same steps s))
     (nobody-passed-over K d (record { entries = entries; queue = queue }) p mode names nameCount (ap (λ r. r .answer) (sym sames) ∙ answered) s (same ∙ ap (λ r. r .desk) sames) steps)
 
--- OTHERS DO. One node, and parties that read or write it
-abbrev one : Hierarchy
-one = record { n = 1; intervals = 1 ∷ 1 ∷ []; edges = []; edgeCount = 0 }
-
-abbrev whole : Mode → Lock
-whole mode = lock mode 0 1 1 (0 ∷ [])
-
--- who waits does not hold
+-- OTHERS DO, or where others are counted. Who waits does not hold
 waits-not : (x : Stage) (l : Lock) → isWaiting x ≡ true → x ≡ Holding l → ⊥
-waits-not Out l e c = not-both true refl (sym e)
-waits-not (Waiting g) l e c = not-both true refl cc
-waits-not (Holding g) l e c = not-both true refl (sym e)
+waits-not x l e c = not-both (isWaiting x) e (ap isWaiting c)
 
--- NEWCOMERS PASS: 0 reads, 1 would write and waits, 2 comes and reads, 0 leaves; 1 still waits
+-- NEWCOMERS PASS: 0 reads; 1 would write, and waits. 2 comes, reads, and is let in; 0 leaves, and 1 still waits
+abbrev reader : Desk
+reader = desk (Holding (whole Reading) ∷ []) [] []
+
+abbrev readerBehind : State
+readerBehind = at (desk (Holding (whole Reading) ∷ Waiting (whole Writing) ∷ []) (1 ∷ []) [])
+
+abbrev readerSteps : List AnyStep
+readerSteps = comes one 2 Reading (0 ∷ []) ∷ goes one 0 32 ∷ []
+
+pub newcomers-told : (runBy newcomersPass readerSteps readerBehind) .events ≡ entered 2 (done (granted 0)) ∷ left 0 (done []) ∷ []
+unfolding allBelow anyBelow every any keep over foldFrom least greatest refusal someEdge closest insert insertAll risesFrom soundParties offer sweep countGrants enterStep afterEnter listed afterLeave
+    alsoRan numbersBelow moveBy runBy
+newcomers-told = refl
+
 pub newcomers-pass-over : NobodyPassedOver newcomersPass ahead → ⊥
 unfolding allBelow anyBelow every any keep over foldFrom least greatest refusal someEdge closest insert insertAll risesFrom soundParties offer sweep countGrants enterStep afterEnter listed afterLeave
     alsoRan numbersBelow moveBy runBy
 newcomers-pass-over claim =
-    let d = desk (Holding (whole Reading) ∷ []) [] [] in
-    let s = at (desk (Holding (whole Reading) ∷ Waiting (whole Writing) ∷ []) (1 ∷ []) []) in
-    let steps = comes one 2 Reading (0 ∷ []) ∷ goes one 0 32 ∷ [] in
-    waits-not (stageAt ((runBy newcomersPass steps s) .state .desk) 1) (whole Writing) refl (claim one d refl refl 1 Writing (0 ∷ []) 1 refl s refl steps refl refl)
+    waits-not (stageAt ((runBy newcomersPass readerSteps readerBehind) .state .desk) 1) (whole Writing) refl
+    (claim one reader refl refl 1 Writing (0 ∷ []) 1 refl readerBehind refl readerSteps refl refl)
 
--- WAITERS FROM THE BACK: 0 writes, 1 would and waits, 2 would and waits behind it, 0 leaves; 2 is granted, and 1 still waits
+-- WAITERS FROM THE BACK: 0 writes; 1 would, and waits. 2 would, and waits behind it; 0 leaves: 2 is granted, and 1 still waits
+abbrev writer : Desk
+writer = desk (Holding (whole Writing) ∷ []) [] []
+
+abbrev writerBehind : Desk
+writerBehind = desk (Holding (whole Writing) ∷ Waiting (whole Writing) ∷ []) (1 ∷ []) []
+
+abbrev writerSteps : List AnyStep
+writerSteps = comes one 2 Writing (0 ∷ []) ∷ goes one 0 32 ∷ []
+
+pub back-told : (runBy fromTheBack writerSteps (at writerBehind)) .events ≡ entered 2 (done waits) ∷ left 0 (done (2 ∷ [])) ∷ []
+unfolding allBelow anyBelow every any keep over foldFrom least greatest refusal someEdge closest insert insertAll risesFrom soundParties offer sweep countGrants enterStep afterEnter listed afterLeave
+    alsoRan numbersBelow moveBy runBy
+back-told = refl
+
 pub back-passes-over : NobodyPassedOver fromTheBack ahead → ⊥
 unfolding allBelow anyBelow every any keep over foldFrom least greatest refusal someEdge closest insert insertAll risesFrom soundParties offer sweep countGrants enterStep afterEnter listed afterLeave
     alsoRan numbersBelow moveBy runBy
 back-passes-over claim =
-    let d = desk (Holding (whole Writing) ∷ []) [] [] in
-    let s = at (desk (Holding (whole Writing) ∷ Waiting (whole Writing) ∷ []) (1 ∷ []) []) in
-    let steps = comes one 2 Writing (0 ∷ []) ∷ goes one 0 32 ∷ [] in
-    waits-not (stageAt ((runBy fromTheBack steps s) .state .desk) 1) (whole Writing) refl (claim one d refl refl 1 Writing (0 ∷ []) 1 refl s refl steps refl refl)
+    waits-not (stageAt ((runBy fromTheBack writerSteps (at writerBehind)) .state .desk) 1) (whole Writing) refl
+    (claim one writer refl refl 1 Writing (0 ∷ []) 1 refl (at writerBehind) refl writerSteps refl refl)
 
--- ONLY THE HOLDERS COUNT: 0 writes, 1 would and waits, 2 would and waits behind it, 0 leaves; 1 is granted, and 2 still waits
-pub waiters-count : NobodyPassedOver paperRules onlyHolders → ⊥
+-- ONLY THE HOLDERS COUNT: 0 writes; 1 would, and waits; 2 would, and waits behind it. 0, the only holder, leaves: 1 is granted, and 2 still waits
+abbrev twoBehind : State
+twoBehind = at (desk (Holding (whole Writing) ∷ Waiting (whole Writing) ∷ Waiting (whole Writing) ∷ []) (1 ∷ 2 ∷ []) [])
+
+pub holders-told : (onlyHolders writerBehind ≡ 0 ∷ []) × ((runBy paperRules (goes one 0 32 ∷ []) twoBehind) .events ≡ left 0 (done (1 ∷ [])) ∷ [])
 unfolding allBelow anyBelow every any keep over foldFrom least greatest refusal someEdge closest insert insertAll risesFrom soundParties offer sweep countGrants enterStep afterEnter listed afterLeave
     alsoRan numbersBelow moveBy runBy
-waiters-count claim =
-    let d = desk (Holding (whole Writing) ∷ Waiting (whole Writing) ∷ []) (1 ∷ []) [] in
-    let s = at (desk (Holding (whole Writing) ∷ Waiting (whole Writing) ∷ Waiting (whole Writing) ∷ []) (1 ∷ 2 ∷ []) []) in
-    let steps = goes one 0 32 ∷ [] in
-    waits-not (stageAt ((runBy paperRules steps s) .state .desk) 2) (whole Writing) refl (claim one d refl refl 2 Writing (0 ∷ []) 1 refl s refl steps refl refl)
+holders-told = (refl, refl)
+
+pub only-holders-pass-over : NobodyPassedOver paperRules onlyHolders → ⊥
+unfolding allBelow anyBelow every any keep over foldFrom least greatest refusal someEdge closest insert insertAll risesFrom soundParties offer sweep countGrants enterStep afterEnter listed afterLeave
+    alsoRan numbersBelow moveBy runBy
+only-holders-pass-over claim =
+    waits-not (stageAt ((runBy paperRules (goes one 0 32 ∷ []) twoBehind) .state .desk) 2) (whole Writing) refl
+    (claim one writerBehind refl refl 2 Writing (0 ∷ []) 1 refl twoBehind refl (goes one 0 32 ∷ []) refl refl)

@@ -6,13 +6,14 @@ use mathlib.Core.List.{List, [], _∷_, _++_, map}
 use mathlib.Core.Bool.{Bool, true, false, not, true≢false}
 use mathlib.Core.Option.{Option, none, some}
 use Prim.Native.Nat.{ℕ}
-use lib.Dec.{eqb}
+use lib.Dec.{eqb, ltb}
 use lib.ListN.{length, set, take, drop}
 use lib.Seq.{take-append-seam}
 use borrow.Author.Tests.{eqb-true, eqb-false, ne-eqb, not-true}
 use Rattle.lists.specs.Lists.{any, keep, over}
 use Rattle.lists.specs.Answer.{done}
 use Rattle.lists.proofs.Bools.{bool, not-both, or-left, or-right, or-either}
+use Rattle.lists.proofs.Refusals.{refusal-none}
 use Rattle.lists.proofs.Members.{In, head, tail}
 use Rattle.locks.specs.declared.Mode.{Mode}
 use Rattle.locks.specs.declared.Lock.{Lock}
@@ -24,8 +25,9 @@ use Rattle.parties.specs.Parties.{entryOf, stageIn}
 use Rattle.sweeps.specs.Sweeps.{Sweep}
 use Rattle.desk.specs.declared.Desk.{Desk}
 use Rattle.desk.specs.Desks.{stageAt, queueOf}
-use Rattle.desk.specs.Steps.{free, enterRefusal, enterIf, enterUnless, enterStep, afterLeaving, leaveRefusal, leaveUnless, leaveStep}
-use Rattle.runs.specs.Run.{lend, Call, enter, get, put, add, leave, left, State, Moved, afterEnter, afterGet, afterPut, afterAdd, listed, afterLeave, moveCall, alsoRan}
+use Rattle.desk.proofs.Facts.{step-own}
+use Rattle.desk.specs.Steps.{leaveOwn, free, enterRefusal, enterIf, enterUnless, enterStep, afterLeaving, leaveRefusal, leaveUnless, leaveStep}
+use Rattle.runs.specs.Run.{lend, Call, enter, get, put, add, leave, Event, left, State, Moved, afterEnter, afterGet, afterPut, afterAdd, listed, afterLeave, moveCall, alsoRan}
 use Rattle.history.specs.History.{begun, visited}
 use Rattle.history.proofs.Facts.{stage-by, stage-own, set-stage, sweep-stage, sweep-holds}
 use Rattle.soundness.proofs.Laws.{unchanged-get, unchanged-put, unchanged-add}
@@ -34,7 +36,7 @@ use Rattle.fairness.specs.AnySteps.{AnyStep, moveAny, runAny}
 use Rattle.fairness.specs.Ahead.{isPresent, IsFor, isLeave, isEnter, hasLeft, visitLeft}
 
 -- what a leave's pass starts from
-abbrev leaving : Desk → ℕ → Sweep
+abbrev pub leaving : Desk → ℕ → Sweep
 leaving d q = record { entries = set (d .entries) q (entryOf Out); stay = []; granted = [] }
 
 -- WHAT HOLDS OF A PARTY'S STAGE until it leaves: what goes over from waiting for a lock to holding it, and does not hold of a party that is out. It begins nothing new meanwhile
@@ -146,6 +148,59 @@ comes-back q (x ∷ xs) s k =
     bool (isLeave q (m .event))
     (λ t. rw t refl)
     (λ f. let (k′, e) = present-lasts x s q k f in rw (f, e) (comes-back q xs (m .state) k′))
+
+-- ONE WHO WAS OUT HAD NO VISIT THAT COULD LEAVE: what it begins and leaves later counts for nothing. It cannot leave (13), and is out until it enters
+call-idle : (K : Hierarchy) (c : Call) (s : State) (q : ℕ) → stageAt (s .desk) q ≡ Out
+    → (isLeave q ((moveCall K c s) .event) ≡ false) × (isEnter q ((moveCall K c s) .event) ≡ false → stageAt ((moveCall K c s) .state .desk) q ≡ Out)
+unfolding moveCall afterEnter afterGet afterPut afterAdd afterLeave listed enterStep leaveStep
+call-idle K (enter r mode names nameCount) s q out = (refl, by (enterRefusal K (s .desk) r names nameCount))
+  where
+    l : Lock
+    l = lockFor K mode (take nameCount names)
+
+    test : (b : Bool) → isEnter q ((afterEnter r s (enterIf b (s .desk) r l)) .event) ≡ false → stageAt ((enterIf b (s .desk) r l) .desk) q ≡ Out
+    test true n = stage-by (λ y. y ≡ Out) (s .desk .entries) r q (Holding l) (λ i. absurd (eqb-false r q n i)) out
+    test false n = stage-by (λ y. y ≡ Out) (s .desk .entries) r q (Waiting l) (λ i. absurd (eqb-false r q n i)) out
+
+    by : (o : Option ℕ) → isEnter q ((afterEnter r s (enterUnless o (s .desk) r l)) .event) ≡ false → stageAt ((enterUnless o (s .desk) r l) .desk) q ≡ Out
+    by (some j) n = out
+    by none n = test (free (s .desk) l) n
+call-idle K (get r node v c) s q out = (refl, λ n. rw (unchanged-get K (s .desk) r node (lend (s .values) v) c) out)
+call-idle K (put r node value v c) s q out = (refl, λ n. rw (unchanged-put K (s .desk) r node value (lend (s .values) v) c) out)
+call-idle K (add r node number v c) s q out = (refl, λ n. rw (unchanged-add K (s .desk) r node number (lend (s .values) v) c) out)
+call-idle K (leave r list) s q out = by (leaveRefusal K (s .desk) r list) refl
+  where
+    After : Option ℕ → Moved
+    After o = afterLeave r s (leaveUnless o (s .desk) r list)
+
+    by : (o : Option ℕ) → leaveRefusal K (s .desk) r list ≡ o
+        → (isLeave q ((After o) .event) ≡ false) × (isEnter q ((After o) .event) ≡ false → stageAt ((After o) .state .desk) q ≡ Out)
+    by (some j) e = (refl, λ n. out)
+    by none e = (
+      ne-eqb r q (λ i. true≢false (ap isOut (sym out) ∙ ap (λ (k : ℕ). isOut (stageAt (s .desk) k)) (sym i)
+          ∙ refusal-none (leaveOwn (s .desk) r) (step-own K (s .desk) r (ltb (length list) 32) (leaveOwn (s .desk) r) e) .0)),
+      λ n. sweep-stage (λ y. y ≡ Out) (λ g c. not-both true refl cc) q (keep (λ other. not (eqb other r)) (queueOf (s .desk))) (leaving (s .desk) r)
+          (stage-by (λ y. y ≡ Out) (s .desk .entries) r q Out (λ i. refl) out),
+    )
+
+pub nothing-to-leave : (q : ℕ) (steps : List AnyStep) (s : State) → stageAt (s .desk) q ≡ Out → visitLeft ((runAny steps s) .events) q ≡ false
+unfolding runAny alsoRan visitLeft
+nothing-to-leave q [] s out = refl
+nothing-to-leave q (x ∷ xs) s out =
+    let m : Moved = moveAny x s in
+    let (n, still) = call-idle (x .tables) (x .call) s q out in
+    bool (isEnter q (m .event))
+    (λ e. rw (n, e) refl)
+    (λ e. rw (n, e) (nothing-to-leave q xs (m .state) (still e)))
+
+-- A VISIT THAT HAS LEFT HAS LEFT FOR GOOD: whatever its party or anybody does afterwards, it stays so
+pub left-for-good : (xs ys : List (Event ℕ)) (q : ℕ) → visitLeft xs q ≡ true → visitLeft (xs ++ ys) q ≡ true
+unfolding visitLeft
+left-for-good [] ys q t = not-both true refl (sym t)
+left-for-good (x ∷ xs) ys q t =
+    bool (isLeave q x)
+    (λ e. rw e refl)
+    (λ e. bool (isEnter q x) (λ f. not-both true refl (sym (rw (e, f) at t))) (λ f. rw (e, f) (left-for-good xs ys q (rw (e, f) at t))))
 
 -- WHO HOLDS BEHIND A LEAVE and did not before is among those that the leave's answer lists
 in-visited : (p : ℕ) (ps : List ℕ) → visited {A = Unit {0}} p (map begun ps) ≡ true → In p ps

@@ -24,9 +24,9 @@ use Rattle.desk.specs.Steps.{granted, waits, enterStep, leaveStep}
 use Rattle.runs.specs.Run.{entered, left, afterEnter, listed, afterLeave, moveCall, alsoRan}
 use Rattle.soundness.proofs.Orderly.{Shaped}
 use Rattle.fairness.specs.AnySteps.{AnyStep, moveAny, runAny}
-use Rattle.fairness.specs.Ahead.{numbersBelow, ahead, visitLeft}
-use Rattle.fairness.proofs.Fairness.{nobody-passed-over, as-soon-as}
-use Rattle.fairness.proofs.Written.{lock, desk, at, comes, goes}
+use Rattle.fairness.specs.Ahead.{numbersBelow, ahead, frontOf, inFront, others, hasLeft, visitLeft}
+use Rattle.fairness.proofs.Fairness.{nobody-passed-over, as-soon-as, waiter-not-passed-over}
+use Rattle.fairness.proofs.Written.{lock, desk, one, whole, at, comes, goes}
 
 -- TABLE T of document 01
 abbrev T : Hierarchy
@@ -101,33 +101,48 @@ unfolding allBelow anyBelow every any keep over foldFrom least greatest refusal 
     moveCall alsoRan runAny numbersBelow
 large-soon = as-soon-as T small shaped 4 Writing (7 ∷ 8 ∷ []) 2 refl (at behind) refl meanwhile (goes T 3 32) 3 (tail (tail head)) refl refl refl
 
--- 1 HAS LEFT AND COME BACK: its visit of before has left, by the definition that looks at visits too; 3, whose leave was refused, has not
-pub come-back : (visitLeft ((runAny meanwhile (at behind)) .events) 1 ≡ true) × (visitLeft ((runAny meanwhile (at behind)) .events) 3 ≡ false)
-    × (stageAt ((runAny meanwhile (at behind)) .state .desk) 1 ≡ Waiting (lock Reading 5 3 3 (7 ∷ [])))
+-- 1 HAS LEFT AND COME BACK: its visit of before has left, and it waits for a later one. 5, which came later, has left, and had no visit before. 3, whose leave was refused, has not left
+pub come-back : (visitLeft ((runAny meanwhile (at behind)) .events) 1 ≡ true) × (stageAt ((runAny meanwhile (at behind)) .state .desk) 1 ≡ Waiting (lock Reading 5 3 3 (7 ∷ [])))
+    × (hasLeft ((runAny meanwhile (at behind)) .events) 5 ≡ true) × (visitLeft ((runAny meanwhile (at behind)) .events) 5 ≡ false)
+    × (hasLeft ((runAny meanwhile (at behind)) .events) 3 ≡ false)
 unfolding allBelow anyBelow every any keep over foldFrom least greatest refusal someEdge closest insert insertAll risesFrom soundParties enterStep offer sweep countGrants leaveStep afterEnter listed afterLeave
     moveCall alsoRan runAny visitLeft
-come-back = (refl, refl, refl)
+come-back = (refl, refl, refl, refl, refl)
+
+-- WHO IS IN FRONT of 4, when 5 is in and 6 waits behind it: those who hold, 5 too, and 3, which waits before it; the others are 6 besides
+abbrev later : Desk
+later =
+    desk
+    (Out ∷ Holding (lock Writing 5 3 3 (7 ∷ [])) ∷ Holding (lock Reading 8 4 4 (8 ∷ [])) ∷ Waiting (lock Writing 8 4 4 (8 ∷ [])) ∷ Waiting large
+    ∷ Holding (lock Reading 3 1 1 (3 ∷ [])) ∷ Waiting (lock Reading 8 4 4 (8 ∷ [])) ∷ [])
+    (3 ∷ 4 ∷ 6 ∷ []) (0 ∷ 1 ∷ 1 ∷ 0 ∷ 0 ∷ 1 ∷ [])
+
+pub in-front-told : ((runAny (comes T 5 Reading (3 ∷ []) ∷ comes T 6 Reading (8 ∷ []) ∷ []) (at behind)) .state .desk ≡ later)
+    × (inFront 4 later ≡ 1 ∷ 2 ∷ 3 ∷ 5 ∷ []) × (others 4 later ≡ 1 ∷ 2 ∷ 3 ∷ 5 ∷ 6 ∷ [])
+unfolding allBelow anyBelow every any keep foldFrom least greatest refusal someEdge closest insert insertAll risesFrom soundParties enterStep afterEnter moveCall alsoRan runAny numbersBelow frontOf
+in-front-told = (refl, refl, refl)
+
+-- once these have left it holds, though 6 still waits: by the theorem of a party that waits already
+pub later-holds : stageAt ((runAny (goes T 1 32 ∷ goes T 2 32 ∷ goes T 5 32 ∷ goes T 3 32 ∷ []) (at later)) .state .desk) 4 ≡ Holding large
+unfolding allBelow anyBelow every any keep over foldFrom least greatest refusal someEdge closest insert insertAll risesFrom soundParties offer sweep countGrants leaveStep listed afterLeave moveCall alsoRan runAny
+    numbersBelow frontOf
+later-holds =
+    waiter-not-passed-over T (at later) (record { entries = refl; queue = refl }) refl 4 large refl (goes T 1 32 ∷ goes T 2 32 ∷ goes T 5 32 ∷ goes T 3 32 ∷ []) refl refl
 
 -- 31 AHEAD: one node, which parties 0 to 30 read, and 31 would write
-abbrev one : Hierarchy
-one = record { n = 1; intervals = 1 ∷ 1 ∷ []; edges = []; edgeCount = 0 }
-
 abbrev readers : List Stage
-readers = replicate 31 (Holding (lock Reading 0 1 1 (0 ∷ [])))
+readers = replicate 31 (Holding (whole Reading))
 
 abbrev full : Desk
 full = desk readers [] []
 
-abbrev writer : Lock
-writer = lock Writing 0 1 1 (0 ∷ [])
-
 abbrev fullBehind : Desk
-fullBehind = desk (readers ++ (Waiting writer ∷ [])) (31 ∷ []) []
+fullBehind = desk (readers ++ (Waiting (whole Writing) ∷ [])) (31 ∷ []) []
 
 -- 30 of them leave: it still waits; with the last of them it holds. So 31 is the least bound
 pub thirty-one : ((enterStep one full 31 Writing (0 ∷ []) 1) .desk ≡ fullBehind) × (ahead full ≡ numbersBelow 31)
-    × (stageAt ((runAny (map (λ party. goes one party 32) (numbersBelow 30)) (at fullBehind)) .state .desk) 31 ≡ Waiting writer)
-    × (stageAt ((runAny (map (λ party. goes one party 32) (numbersBelow 31)) (at fullBehind)) .state .desk) 31 ≡ Holding writer)
+    × (stageAt ((runAny (map (λ party. goes one party 32) (numbersBelow 30)) (at fullBehind)) .state .desk) 31 ≡ Waiting (whole Writing))
+    × (stageAt ((runAny (map (λ party. goes one party 32) (numbersBelow 31)) (at fullBehind)) .state .desk) 31 ≡ Holding (whole Writing))
 unfolding allBelow anyBelow every any keep over foldFrom least greatest refusal someEdge closest insert insertAll risesFrom soundParties enterStep offer sweep countGrants leaveStep afterEnter listed afterLeave
     moveCall alsoRan runAny numbersBelow
 thirty-one = (refl, refl, refl, refl)

@@ -1,5 +1,5 @@
 -- Desks and steps written out, for cases by computation. Assumes nothing.
-use mathlib.Core.List.{List, [], _++_, map}
+use mathlib.Core.List.{List, [], _∷_, _++_, map}
 use Prim.Native.Nat.{ℕ}
 use lib.ListN.{length, take, replicate}
 use Rattle.naming.specs.Names.{named}
@@ -27,6 +27,13 @@ desk stages list grants =
       waiting = length list;
       grants = take 32 (grants ++ replicate 32 0);
     }
+
+-- one node, and what a party holds or waits for that reads or writes it
+abbrev pub one : Hierarchy
+one = record { n = 1; intervals = 1 ∷ 1 ∷ []; edges = []; edgeCount = 0 }
+
+abbrev pub whole : Mode → Lock
+whole mode = lock mode 0 1 1 (0 ∷ [])
 
 -- a list of steps starts from it
 abbrev pub at : Desk → State

@@ -1,7 +1,7 @@
--- Desks with other rules than the paper's in the two places that point 8 of 02 hangs on, only to show that it is false of them. Assumes nothing.
+-- Desks with other rules than the paper's in two of the places that point 8 of 02 hangs on, only to show that it is false of them. Assumes nothing.
 use mathlib.Core.Path.{_≡_}
 use mathlib.Core.List.{List, [], _∷_, reverse}
-use mathlib.Core.Bool.{Bool, true, false, not, _&&_}
+use mathlib.Core.Bool.{Bool, true, false, not}
 use mathlib.Core.Option.{Option, none, some}
 use Prim.Native.Nat.{ℕ}
 use lib.Dec.{eqb}
@@ -11,7 +11,7 @@ use Rattle.lists.specs.Answer.{done, refused}
 use Rattle.locks.specs.declared.Mode.{Mode}
 use Rattle.locks.specs.declared.Lock.{Lock}
 use Rattle.locks.specs.declared.Stage.the-variants.{Out, Holding}
-use Rattle.locks.specs.Stages.{isWaiting}
+use Rattle.locks.specs.Stages.{isHolding}
 use Rattle.locks.specs.Lent.{Hierarchy, lockFor}
 use Rattle.parties.specs.declared.Entry.{Entry}
 use Rattle.parties.specs.Parties.{entryOf, meetsHolder, isFree}
@@ -21,7 +21,7 @@ use Rattle.desk.specs.Desks.{stageAt, queueOf}
 use Rattle.desk.specs.Steps.{waits, EnterResult, LeaveResult, enterRefusal, enterIf, leaveWith, leaveRefusal}
 use Rattle.runs.specs.Run.{Call, enter, get, put, add, leave, State, Moved, afterEnter, afterLeave, moveCall, Ran, alsoRan}
 use Rattle.fairness.specs.AnySteps.{AnyStep}
-use Rattle.fairness.specs.Ahead.{numbersBelow, isPresent, hasLeft, allLeft}
+use Rattle.fairness.specs.Ahead.{numbersBelow, hasLeft, allLeft}
 
 -- the two places: whether a newcomer is let in, by those at the desk; and in which order the waiters are taken, by the arrival list
 pub record Rules : Type 0 where
@@ -32,17 +32,17 @@ pub record Rules : Type 0 where
 abbrev pub paperRules : Rules
 paperRules = record { admits = isFree; turns = λ list. list }
 
--- a newcomer passes those that wait: it conflicts with no holder
+-- a newcomer passes waiters that it conflicts with: it is let in where it conflicts with no holder
 abbrev pub newcomersPass : Rules
 newcomersPass = record { admits = λ entries l. not (meetsHolder entries l); turns = λ list. list }
 
--- waiters are taken from the back
+-- waiters are taken from the back (those that stay are then listed in the order in which they were taken)
 abbrev pub fromTheBack : Rules
 fromTheBack = record { admits = isFree; turns = reverse }
 
 -- AND OF WHO IS AHEAD: only those that hold
 abbrev pub onlyHolders : Desk → List ℕ
-onlyHolders d = keep (λ party. isPresent d party && not (isWaiting (stageAt d party))) (numbersBelow 32)
+onlyHolders d = keep (λ party. isHolding (stageAt d party)) (numbersBelow 32)
 
 -- enter by these rules
 abbrev pub enterBy : Rules → Option ℕ → Desk → ℕ → Lock → EnterResult

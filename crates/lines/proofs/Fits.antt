@@ -20,10 +20,11 @@ use Rattle.blocks.specs.File.{recordsOf, wholeBlocks, fileRecords, fileChecks}
 use Rattle.block_laws.proofs.Pieces.{bytes-take, bytes-drop}
 use Rattle.parties.specs.declared.Entry.{Entry}
 use Rattle.desk.specs.declared.Desk.{Desk}
+use Rattle.locks.specs.Stages.{isHolding}
 use Rattle.locks.specs.Lent.{Hierarchy}
 use Rattle.runs.specs.Run.{State, Ran, alsoRan, run}
 use Rattle.replay.specs.Replay.{StepAnswer, answerIn, answersOf, eachRecord, recordList, stepRecords, sizeOf, edgeTable, edgeCountOf, builtOf}
-use Rattle.replay.specs.Replay.{startOf, performStep, performAll, isHolding, holdersAt, fileRun, runUnless, runRecords, fileUnless, runFile}
+use Rattle.replay.specs.Replay.{startOf, performStep, performAll, holdersAt, fileRun, runUnless, runRecords, fileUnless, runFile}
 use Rattle.replay.proofs.Records.{records-length}
 use Rattle.opening.proofs.Opens.{records-whole}
 use Rattle.texts.specs.Text.{decimal, space, newline, answerText, refusedWord, endWord, partyWord}

@@ -103,11 +103,16 @@ any-further p m (suc k) f =
     let e : suc k + m ≡ suc (k + m) = omega arith in
     rw e (ap (anyBelow (k + m) p ||_) (f (k + m) (omega arith)) ∙ or-false (anyBelow (k + m) p) ∙ any-further p m k f)
 
+-- a test at some element of two lists, one behind the other
+pub any-append : {A : Type 0} (f : A → Bool) (xs ys : List A) → any f (xs ++ ys) ≡ any f xs || any f ys
+unfolding any
+any-append f [] ys = refl
+any-append f (x ∷ xs) ys = ap (f x ||_) (any-append f xs ys) ∙ sym (or-assoc (f x) (any f xs) (any f ys))
+
 -- a test at some of the first k elements, by their places
 any-snoc : {A : Type 0} (f : A → Bool) (xs : List A) (x : A) → any f (xs ++ (x ∷ [])) ≡ any f xs || f x
 unfolding any
-any-snoc f [] x = or-false (f x)
-any-snoc f (y ∷ ys) x = ap (f y ||_) (any-snoc f ys x) ∙ sym (or-assoc (f y) (any f ys) (f x))
+any-snoc f xs x = any-append f xs (x ∷ []) ∙ ap (any f xs ||_) (or-false (f x))
 
 pub any-take : {A : Type 0} (f : A → Bool) (l : List A) (d : A) (k : ℕ) → k ≤ length l → any f (take k l) ≡ anyBelow k (λ i. f (getD l i d))
 unfolding anyBelow any

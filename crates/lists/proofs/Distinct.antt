@@ -8,7 +8,7 @@ use native.Mathlib.Omega.{arith}
 use lib.Dec.{eqb}
 use lib.ListN.{length, getD}
 use borrow.Author.Tests.{eqb-true, eqb-false, ne-eqb, not-true}
-use Rattle.lists.specs.Lists.{allBelow, anyBelow, every, any, keep}
+use Rattle.lists.specs.Lists.{allBelow, anyBelow, every, any, count, keep}
 use Rattle.lists.proofs.Bools.{bool, not-both, and-left, and-right, and-both, or-either}
 use Rattle.lists.proofs.Members.{In, head, tail, in-nil, in-cons, kept-in}
 
@@ -61,6 +61,11 @@ unfolding any
 any-alike p q [] f = refl
 any-alike p q (x ∷ xs) f = rw (f x head, any-alike p q xs (λ y i. f y (tail i)))
 
+pub count-alike : (p q : ℕ → Bool) (xs : List ℕ) → ((x : ℕ) → In x xs → p x ≡ q x) → count p xs ≡ count q xs
+unfolding count
+count-alike p q [] f = refl
+count-alike p q (x ∷ xs) f = rw (f x head, count-alike p q xs (λ y i. f y (tail i)))
+
 -- PLACES. What stands at a place is a member, and each member stands at one
 pub place-in : (xs : List ℕ) (i : ℕ) → i < length xs → In (getD xs i 0) xs
 place-in [] i h = absurd (omega arith)
@@ -92,6 +97,15 @@ in-either {x} {y} (z ∷ xs) ys i = in-cons i (λ e. inr (subst (λ (k : ℕ). I
     up : (y ≡ x) ⊎ In x (xs ++ ys) → (y ≡ x) ⊎ In x (z ∷ (xs ++ ys))
     up (inl e) = inl e
     up (inr j) = inr (tail j)
+
+-- a member of two lists joined is one of the first or of the second
+pub in-split : {x : ℕ} (xs ys : List ℕ) → In x (xs ++ ys) → In x xs ⊎ In x ys
+in-split [] ys i = inr i
+in-split {x} (z ∷ xs) ys i = in-cons i (λ e. inl (subst (λ (k : ℕ). In k (z ∷ xs)) e head)) (λ j. up (in-split xs ys j))
+  where
+    up : In x xs ⊎ In x ys → In x (z ∷ xs) ⊎ In x ys
+    up (inl j) = inl (tail j)
+    up (inr j) = inr j
 
 -- members that pass a test
 pub in-keep : (p : ℕ → Bool) {x : ℕ} {xs : List ℕ} → In x xs → p x ≡ true → In x (keep p xs)

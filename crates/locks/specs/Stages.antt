@@ -22,6 +22,12 @@ isWaiting Out = false
 isWaiting (Waiting l) = true
 isWaiting (Holding l) = false
 
+-- the party is holding
+abbrev pub isHolding : Stage → Bool
+isHolding Out = false
+isHolding (Waiting l) = false
+isHolding (Holding l) = true
+
 -- CONFLICTS of a lock. With what a party holds
 abbrev pub againstHolder : Lock → Stage → Bool
 againstHolder l Out = false

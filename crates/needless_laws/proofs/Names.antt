@@ -1,14 +1,13 @@
 -- Visits that name one node: each party's lock, held or waited for, has the interval of its one name. What keeps this. Assumes nothing.
-use mathlib.Core.Path.{_≡_, sym}
+use mathlib.Core.Path.{_≡_, sym, subst}
 use mathlib.Core.List.{List, [], _∷_}
-use mathlib.Core.Bool.{Bool, true, false, not, _||_}
+use mathlib.Core.Bool.{true}
 use mathlib.Core.Option.{none}
-use Prim.Native.Nat.{ℕ, zero, suc, _<_}
+use Prim.Native.Nat.{ℕ, _<_}
 use lib.Dec.{eqb}
 use lib.ListN.{length, getD, set, take}
 use lib.Seq.{getD-set-same, getD-set-other}
 use borrow.Author.Tests.{eqb-true, eqb-false}
-use Rattle.lists.specs.Lists.{every}
 use Rattle.lists.proofs.Bools.{bool}
 use Rattle.lists.proofs.Members.{In, in-nil, in-cons}
 use Rattle.lists.proofs.Distinct.{every-in, place-in}
@@ -18,10 +17,11 @@ use Rattle.locks.specs.declared.Stage.{Stage}
 use Rattle.locks.specs.declared.Stage.the-variants.{Out, Waiting, Holding}
 use Rattle.locks.specs.Lent.{Hierarchy, lowIn, highIn, lockFor}
 use Rattle.parties.specs.declared.Entry.{Entry}
-use Rattle.parties.specs.Parties.{entryOf, stageIn, meetsHolder, meetsWaiter}
-use Rattle.sweeps.specs.Sweeps.{Sweep, offerIf, offerTo, offer, sweep}
+use Rattle.parties.specs.Parties.{entryOf, stageIn}
+use Rattle.sweeps.specs.Sweeps.{Sweep, sweep}
 use Rattle.desk.specs.declared.Desk.{Desk}
 use Rattle.desk.specs.Steps.{enterRefusal}
+use Rattle.history.proofs.Facts.{stage-by, sweep-stage}
 use Rattle.soundness.proofs.Changes.{stage-same, stage-other}
 use Rattle.soundness.proofs.Covers.{enter-some, enter-nodes, enter-one}
 use Rattle.needless.specs.Waits.{namesOf}
@@ -70,34 +70,11 @@ named-set H entries named p x names he hn new old q =
     (λ e. rw (eqb-true q p e, stage-same entries p x he, getD-set-same named p names [] hn) new)
     (λ e. rw (stage-other entries p q x (eqb-false q p e), getD-set-other named p q names [] (eqb-false q p e)) (old q))
 
--- what holds of each party's stage, and of the stage stored at its party, holds of each after the store
-stored-at : (P : ℕ → Stage → Type 0) (entries : List Entry) (p q : ℕ) (x : Stage) → P p x → ((r : ℕ) → P r (stageIn entries r)) → P q (stageIn (set entries p (entryOf x)) q)
-stored-at P [] p q x h f = f q
-stored-at P (e ∷ es) zero zero x h f = h
-stored-at P (e ∷ es) zero (suc q) x h f = f (suc q)
-stored-at P (e ∷ es) (suc p) zero x h f = f zero
-stored-at P (e ∷ es) (suc p) (suc q) x h f = stored-at (λ k. P (suc k)) es p q x h (λ k. f (suc k))
-
 module _ (H : Hierarchy) (named : List (List ℕ)) where
   -- a stage stored for a party whose names stay: a leave, or a waiter granted
   pub named-kept : (entries : List Entry) (p : ℕ) (x : Stage) → StageNamed H x (namesOf named p) → AllNamed H entries named → AllNamed H (set entries p (entryOf x)) named
-  named-kept entries p x new old q = stored-at (λ r y. StageNamed H y (namesOf named r)) entries p q x new old
+  named-kept entries p x new old q = stage-by (λ y. StageNamed H y (namesOf named q)) entries p q x (λ e. subst (λ (r : ℕ). StageNamed H x (namesOf named r)) e new) (old q)
 
   -- LEAVE'S PASS moves locks unchanged: a waiter granted holds what it waited for
-  offer-named : (s : Sweep) (p : ℕ) → AllNamed H (s .entries) named → AllNamed H ((offer s p) .entries) named
-  unfolding offer
-  offer-named s p old = by (stageIn (s .entries) p) (old p)
-    where
-      test : (l : Lock) (b : Bool) → NamedBy H l (namesOf named p) → AllNamed H ((offerIf b s p l) .entries) named
-      test l true h = named-kept (s .entries) p (Holding l) h old
-      test l false h = old
-
-      by : (x : Stage) → StageNamed H x (namesOf named p) → AllNamed H ((offerTo s p x) .entries) named
-      by Out h = old
-      by (Waiting l) h = test l (not (meetsHolder (s .entries) l || meetsWaiter (s .entries) (s .stay) l)) h
-      by (Holding l) h = old
-
   pub sweep-named : (parties : List ℕ) (s : Sweep) → AllNamed H (s .entries) named → AllNamed H ((sweep s parties) .entries) named
-  unfolding sweep
-  sweep-named [] s old = old
-  sweep-named (p ∷ parties) s old = sweep-named parties (offer s p) (offer-named s p old)
+  sweep-named parties s old q = sweep-stage (λ y. StageNamed H y (namesOf named q)) (λ l h. h) q parties s (old q)

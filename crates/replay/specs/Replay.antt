@@ -11,10 +11,9 @@ use Rattle.hierarchy.specs.Hierarchy.{hierarchyChecks}
 use Rattle.intervals.specs.Intervals.{intervalTable}
 use Rattle.blocks.specs.Record.{kindOf, sizeIn, parentIn, childIn, partyIn, modeIn, nameCountIn, namesIn, nodeIn, valueIn, recordRight}
 use Rattle.blocks.specs.File.{fileChecks, fileRecords}
-use Rattle.locks.specs.declared.Stage.{Stage}
-use Rattle.locks.specs.declared.Stage.the-variants.{Out, Waiting, Holding}
 use Rattle.desk.specs.declared.Desk.{Desk}
 use Rattle.locks.specs.Locks.{modeNumbered}
+use Rattle.locks.specs.Stages.{isHolding}
 use Rattle.locks.specs.Lent.{Hierarchy, lent}
 use Rattle.desk.specs.Steps.{granted as admitted, Admission, waits as queued}
 use Rattle.runs.specs.Run.{whole, Call, enter, get, put, add, leave, Step, Event, entered, got, stored as wrote, added as summed, left as gone, State, start}
@@ -181,12 +180,6 @@ answersOf ran = map answerIn (ran .events)
 -- a file starts from a fresh desk and n values of zero
 abbrev pub startOf : Hierarchy → ℕ → State
 startOf H n = start H (replicate n 0)
-
--- the party is holding
-abbrev pub isHolding : Stage → Bool
-isHolding Out = false
-isHolding (Waiting l) = false
-isHolding (Holding l) = true
 
 -- the count of holders
 abbrev pub holdersAt : Desk → ℕ

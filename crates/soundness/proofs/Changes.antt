@@ -3,7 +3,7 @@ use mathlib.Core.Path.{_≡_, refl, sym, ap, _∙_, subst}
 use mathlib.Core.Logic.{_⊎_, inl, inr, _≢_}
 use mathlib.Core.List.{List, [], _∷_, _++_, append-nil}
 use mathlib.Core.Bool.{Bool, true, false, not, or-true, true≢false}
-use Prim.Native.Nat.{ℕ, zero, suc, _<_}
+use Prim.Native.Nat.{ℕ, _<_}
 use native.Mathlib.Omega.{arith}
 use lib.Dec.{eqb}
 use lib.ListN.{length, getD, set, take, drop, take-append-drop, length-set, length-append, List·getD-append}
@@ -25,7 +25,7 @@ use Rattle.parties.proofs.Clauses.{Fits}
 use Rattle.parties.specs.declared.Entry.{Entry}
 use Rattle.parties.specs.Parties.{entryOf, stageIn, meetsHolder}
 use Rattle.parties.specs.Sound.{heldUp}
-use Rattle.history.proofs.Facts.{set-stage, holder-below, conflict-sym}
+use Rattle.history.proofs.Facts.{set-stage, stage-by, holder-below, conflict-sym}
 use Rattle.soundness.proofs.Orderly.{Orderly, HeldUp}
 
 -- STAGES after a store: at the party stored, at another, and at any
@@ -36,11 +36,7 @@ pub stage-other : (es : List Entry) (p q : ℕ) (x : Stage) → q ≢ p → stag
 stage-other es p q x ne = ap (λ (e : Entry). e .stage) (getD-set-other es p q (entryOf x) (entryOf Out) ne)
 
 stage-any : (f : Stage → Bool) {b : Bool} (es : List Entry) (p q : ℕ) (x : Stage) → f x ≡ b → f (stageIn es q) ≡ b → f (stageIn (set es p (entryOf x)) q) ≡ b
-stage-any f [] p q x h k = k
-stage-any f (e ∷ es) zero zero x h k = h
-stage-any f (e ∷ es) zero (suc q) x h k = k
-stage-any f (e ∷ es) (suc p) zero x h k = k
-stage-any f (e ∷ es) (suc p) (suc q) x h k = stage-any f es p q x h k
+stage-any f {b} es p q x h k = stage-by (λ y. f y ≡ b) es p q x (λ i. h) k
 
 -- A LOCK that may be held or waited for: its interval is real, its cover and its names are right, and the cover's interval contains theirs
 pub record Fit (H : Hierarchy) (l : Lock) : Type 0 where

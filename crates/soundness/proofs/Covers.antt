@@ -2,7 +2,7 @@
 use mathlib.Core.Path.{_≡_, refl, sym, ap, subst}
 use mathlib.Core.Logic.{_⊎_, inl, inr}
 use mathlib.Core.List.{List, [], _∷_}
-use mathlib.Core.Bool.{Bool, true, false, not}
+use mathlib.Core.Bool.{Bool, true, false}
 use mathlib.Core.Option.{Option, none, some}
 use Prim.Native.Nat.{ℕ, _≤_, _<_}
 use native.Mathlib.Omega.{arith}
@@ -42,7 +42,7 @@ right-rooted H fine = record {
   in-root = λ node h. let i = not-wrong H node fine h in contains-by (intervalAt (H .intervals) 0) (intervalAt (H .intervals) node) (i .1) (i .2);
 }
 
--- a party that is out is so
+-- where the test says that a party is out, its stage is that
 pub is-out : (x : Stage) → isOut x ≡ true → x ≡ Out
 is-out Out e = refl
 is-out (Waiting l) e = not-both true refl (sym e)

@@ -1,5 +1,5 @@
 -- THE THEOREMS OF THE DESK, in full, in the order of the customer's demands. Each is proved by citing the one that a crate below proves: with a hypothesis
--- more or a clause less there it would no longer fit. Some of points 4, 5 and 6 no crate below states: they follow here, in a few lines, from laws and definitions below.
+-- more or a clause less there it would no longer fit. Some of points 4, 5, 6 and 8 no crate below states: they follow here, in a few lines, from laws and definitions below.
 -- What the terms mean is in the definitions, crates/*/specs; what each function does is its contract, in crates/*/src, where demand 1 is carried: no public
 -- function has a `requires`, and each result is equated with a definition. Assumes nothing.
 use mathlib.Core.Path.{_≡_, refl, sym, ap, subst, _∙_}
@@ -10,7 +10,7 @@ use mathlib.Core.Option.{none}
 use Prim.Native.Nat.{ℕ, zero, suc, _+_, _*_, _%_, _^_, _≤_, _<_, min, max}
 use native.Mathlib.Omega.{arith}
 use lib.Dec.{eqb, ltb}
-use borrow.Author.Tests.{lt-ltb, le-leb, eq-eqb, ne-eqb, not-true, not-false}
+use borrow.Author.Tests.{lt-ltb, le-leb, eqb-false, eq-eqb, ne-eqb, not-true, not-false}
 use lib.ListN.{length, getD, set, take, replicate}
 use Rattle.lists.specs.Lists.{every, any, count, sum, over, Below}
 use Rattle.lists.specs.Answer.{done, refused, refusal}
@@ -38,7 +38,7 @@ use Rattle.desk.specs.Sound.{soundDesk}
 use Rattle.desk.specs.declared.EnterStep.{EnterStep}
 use Rattle.desk.specs.declared.EnterAnswer.the-variants.{Waits}
 use Rattle.desk.specs.Steps.{granted, waits as waiting, enterRefusal, enterStep, stepChecks, valuesShort, getStep, putStep, addStep, leaveStep}
-use Rattle.runs.specs.Run.{Step, Event, left as left-with, State, start, Ran, run}
+use Rattle.runs.specs.Run.{Step, Event, entered as entered-with, left as left-with, State, start, Ran, run}
 use Rattle.runs.specs.Over.{startOver, runOver}
 use Rattle.history.specs.History.{history, grantedIn, bareEvent, opsIn, countedFrom, serialFinds, serialLeaves}
 use Rattle.history.specs.Serial.{Built, SerialSteps}
@@ -46,8 +46,8 @@ use Rattle.desk.specs.Answers.{Enters, Gets, Puts, Adds, Leaves}
 use Rattle.history.specs.Results.{Result, enter, get, put, add, leave, Made, Meets, deskFrom, valuesFrom, AllMeet, toldByAll, lastDesk, lastValues}
 use Rattle.soundness.specs.Refused.{refusedWith}
 use Rattle.soundness.specs.Given.{givenIn, Keeps}
-use Rattle.fairness.specs.AnySteps.{AnyStep, moveAny, runAny, HostCall, CallsMeet, toldBack, deskAfter}
-use Rattle.fairness.specs.Ahead.{isPresent, ahead, others, isLeave, isEnter, hasLeft, allLeft, visitLeft}
+use Rattle.fairness.specs.AnySteps.{AnyStep, enterWith, moveAny, runAny, HostCall, CallsMeet, toldBack, deskAfter}
+use Rattle.fairness.specs.Ahead.{isPresent, ahead, inFront, others, isLeave, isEnter, hasLeft, allLeft, visitLeft}
 use Rattle.fairness.specs.Rules.{paperRules, newcomersPass, fromTheBack, onlyHolders, NobodyPassedOver}
 use Rattle.file_laws.specs.Files.{eventsOf}
 use Rattle.replay.specs.Replay.{waits, stored, left, FileRun, granted as admitted, refused as denied, recordList, stepRecords, sizeOf, edgeTable, edgeCountOf, answersOf}
@@ -64,7 +64,7 @@ use Rattle.needless_laws.specs.Visits.{OneEach}
 use Rattle.lists.proofs.Marks.{zero-at}
 use Rattle.lists.proofs.Members.{In}
 use Rattle.lists.proofs.Bools.{bool, not-both}
-use Rattle.lists.proofs.Distinct.{every-in, Distinct}
+use Rattle.lists.proofs.Distinct.{every-in, in-keep, keep-in, Distinct}
 use Rattle.interval_laws.proofs.Laws as laws
 use Rattle.interval_laws.proofs.Scratch as building
 use Rattle.intervals.proofs.Bounds as bounds-laws
@@ -821,7 +821,7 @@ Begins K d p mode names nameCount = (length (d .entries) ≡ 32) × (length (d .
 shaped : (d : Desk) → length (d .entries) ≡ 32 → length (d .queue) ≡ 32 → Shaped d
 shaped d e q = record { entries = e; queue = q }
 
--- a call begins to wait at a sound desk only: at any other it is refused with 10. Its party is out there,
+-- a call begins to wait at a desk only that is sound over the tables that it is lent: at any other it is refused, with 10 at the latest. Its party is out there,
 begins-sound : (K : Hierarchy) (d : Desk) (p : ℕ) (mode : Mode) (names : List ℕ) (nameCount : ℕ) → Begins K d p mode names nameCount
     → (soundDesk K d ≡ true) × (stageAt d p ≡ Out)
 begins-sound K d p mode names nameCount (e, q, a) =
@@ -850,15 +850,21 @@ ahead-most K d p mode names nameCount (e, q, a) =
     let s : State = record { hierarchy = K; desk = (enterStep K d p mode names nameCount) .desk; values = [] } in
     (waited.some-ahead K d (shaped d e q) p mode names nameCount a s refl, waited.at-most-31 K d (shaped d e q) p mode names nameCount a)
 
--- SO AT MOST 31 LEAVES, those of these visits, stand before the call: while it does not hold, fewer than 31 of them have left, and fewer than they are, whatever else was done among them
+-- SO AT MOST 31 LEAVES, those of these visits, stand before the call: while it does not hold, fewer than 31 of these visits have left, and fewer than they are, whatever else was done among them
 leaves-before : (K : Hierarchy) (d : Desk) (p : ℕ) (mode : Mode) (names : List ℕ) (nameCount : ℕ) → Begins K d p mode names nameCount
     → (s : State) → s .desk ≡ (enterStep K d p mode names nameCount) .desk → (steps : List AnyStep) → let ran = runAny steps s in
-    hasLeft (ran .events) p ≡ false → (stageAt (ran .state .desk) p ≡ Holding (lockFor K mode (take nameCount names)) → ⊥)
-    → (count (hasLeft (ran .events)) (ahead d) < 31) × (count (hasLeft (ran .events)) (ahead d) < length (ahead d))
-leaves-before K d p mode names nameCount (e, q, a) s same steps stays not-yet = (
-  waited.before-31-leaves K d (shaped d e q) p mode names nameCount a s same steps stays not-yet,
-  waited.fewer-left K d (shaped d e q) p mode names nameCount a s same steps stays not-yet,
-)
+    visitLeft (ran .events) p ≡ false → (stageAt (ran .state .desk) p ≡ Holding (lockFor K mode (take nameCount names)) → ⊥)
+    → (count (visitLeft (ran .events)) (ahead d) < 31) × (count (visitLeft (ran .events)) (ahead d) < length (ahead d))
+leaves-before K d p mode names nameCount (e, q, a) s same steps = waited.visits-before K d (shaped d e q) p mode names nameCount a s same steps
+
+-- in the middle of a list, too: any steps from any desk of 32 entries and 32 places, a call that is told to wait, any steps behind it
+in-a-list : (s : State) → length (s .desk .entries) ≡ 32 → length (s .desk .queue) ≡ 32 → (before after : List AnyStep)
+    → (K : Hierarchy) (p : ℕ) (mode : Mode) (names : List ℕ) (nameCount : ℕ)
+    → let call = enterWith K p mode names nameCount in let was = (runAny before s) .state in let told = moveAny call was in
+    told .event ≡ entered-with p (done waiting) → let ran = runAny after (told .state) in
+    ((q : ℕ) → In q (ahead (was .desk)) → visitLeft (ran .events) q ≡ true) → visitLeft (ran .events) p ≡ false
+    → stageAt ((runAny (before ++ (call ∷ after)) s) .state .desk) p ≡ Holding (lockFor K mode (take nameCount names))
+in-a-list s e q = waited.in-a-list s (shaped (s .desk) e q)
 
 -- the list that ends with the last of these leaves, of q: behind it the call holds, and where it did not before, that leave's answer lists its party
 as-soon-as : (K : Hierarchy) (d : Desk) (p : ℕ) (mode : Mode) (names : List ℕ) (nameCount : ℕ) → Begins K d p mode names nameCount
@@ -871,8 +877,8 @@ as-soon-as K d p mode names nameCount (e, r, a) s same first last q parties i al
   waited.listed-then K d (shaped d e r) p mode names nameCount a s same first last q i all parties goes stays,
 )
 
--- WHO LEAVES AND COMES BACK COUNTS AS A LATER VISIT. On any desk, over any tables: as long as a party has taken no leave that was not refused, it has the visit or call that it had, for the same
--- lock, and none of its enters was taken,
+-- WHO LEAVES AND COMES BACK COUNTS AS A LATER VISIT. On any desk, over any tables: as long as a party has taken no leave that was not refused, it has the visit that it had, for the same lock,
+-- and none of its enters was taken,
 visit-lasts : (q : ℕ) (l : Lock) (s : State) (steps : List AnyStep) → let ran = runAny steps s in let stage = stageAt (ran .state .desk) q in
     (stageAt (s .desk) q ≡ Holding l) ⊎ (stageAt (s .desk) q ≡ Waiting l) → hasLeft (ran .events) q ≡ false
     → ((stage ≡ Holding l) ⊎ (stage ≡ Waiting l)) × (any (isEnter q) (ran .events) ≡ false)
@@ -882,35 +888,64 @@ visit-lasts = visits.visit-lasts
 leave-ends : (x : AnyStep) (s : State) (q : ℕ) → isLeave q ((moveAny x s) .event) ≡ true → stageAt ((moveAny x s) .state .desk) q ≡ Out
 leave-ends = visits.leave-ends
 
--- so that the visit or call that it had has left (a leave of its, not refused, stands before any enter of its that was not refused) just where it has taken any leave that was not refused,
+-- so that the visit that it had has left (a leave of its that was not refused stands before any enter of its that was not refused) just where the party has left at all: what is said by parties
+-- (`hasLeft`, `allLeft`), here and below, is said by visits (`visitLeft`),
 comes-back : (q : ℕ) (steps : List AnyStep) (s : State) → (stageAt (s .desk) q ≡ Out → ⊥) → let ran = runAny steps s in visitLeft (ran .events) q ≡ hasLeft (ran .events) q
 comes-back q steps s there =
     visits.comes-back q steps s (bool (isOut (stageAt (s .desk) q)) (λ e. absurd (there (entered.is-out (stageAt (s .desk) q) e))) (λ e. rw e refl))
 
--- and what it does afterwards, or anybody else, changes nothing: once those ahead have left, the call holds until its own party leaves
+-- a party that was out had no visit: what it begins and leaves later is of no account,
+nothing-to-leave : (q : ℕ) (steps : List AnyStep) (s : State) → stageAt (s .desk) q ≡ Out → visitLeft ((runAny steps s) .events) q ≡ false
+nothing-to-leave = visits.nothing-to-leave
+
+-- and a visit that has left has left for good, whatever its party, or anybody, does afterwards
+left-for-good : (events more : List (Event ℕ)) (q : ℕ) → visitLeft events q ≡ true → visitLeft (events ++ more) q ≡ true
+left-for-good = visits.left-for-good
+
+-- So it is with the call: once those ahead have left, it holds until its own party leaves, whatever is done then
 afterwards : (K : Hierarchy) (d : Desk) (p : ℕ) (mode : Mode) (names : List ℕ) (nameCount : ℕ) → Begins K d p mode names nameCount
     → (s : State) → s .desk ≡ (enterStep K d p mode names nameCount) .desk → (first more : List AnyStep)
     → allLeft (ahead d) ((runAny first s) .events) ≡ true → hasLeft ((runAny (first ++ more) s) .events) p ≡ false
     → stageAt ((runAny (first ++ more) s) .state .desk) p ≡ Holding (lockFor K mode (take nameCount names))
 afterwards K d p mode names nameCount (e, q, a) = waited.afterwards K d (shaped d e q) p mode names nameCount a
 
--- OF A PARTY THAT WAITS ALREADY, at any sound desk: as soon as all others that hold or wait there, at most 31, have left, it holds what it waits for, unless it left
-waits-already : (K : Hierarchy) (s : State) → length (s .desk .entries) ≡ 32 → length (s .desk .queue) ≡ 32 → soundDesk K (s .desk) ≡ true
-    → (p : ℕ) (l : Lock) → stageAt (s .desk) p ≡ Waiting l
-    → (length (others p (s .desk)) ≤ 31)
-    × ((steps : List AnyStep) → let ran = runAny steps s in allLeft (others p (s .desk)) (ran .events) ≡ true → hasLeft (ran .events) p ≡ false
-    → stageAt (ran .state .desk) p ≡ Holding l)
-waits-already K s e q sound p l w =
-    (waited.others-at-most-31 K s (shaped (s .desk) e q) sound p l w, waited.nobody-passed-over-later K s (shaped (s .desk) e q) sound p l w)
+-- all others that hold or wait at a desk, as a list
+others-are : (p : ℕ) (d : Desk) (q : ℕ) → (In q (others p d) → In q (ahead d) × (q ≡ p → ⊥)) × (In q (ahead d) × (q ≡ p → ⊥) → In q (others p d))
+others-are p d q = (
+  λ i. let (j, e) = keep-in (λ party. not (eqb party p)) q (ahead d) i in (j, eqb-false q p (not-true (eqb q p) e)),
+  λ (j, ne). in-keep (λ party. not (eqb party p)) j (rw (ne-eqb q p ne)),
+)
 
--- OVER ONE HIERARCHY, in the lists of demand 3, that is so too, of any part of a list that starts from any desk
+-- OF A PARTY THAT WAITS ALREADY, at any sound desk: as soon as those who hold there, and those who wait before it (`inFront`), have left, it holds what it waits for, unless it left; so, too, as
+-- soon as all others who hold or wait there have. Either are at most 31, and while it does not hold, fewer than 31 of them have left
+waits-already : (K : Hierarchy) (s : State) → length (s .desk .entries) ≡ 32 → length (s .desk .queue) ≡ 32 → soundDesk K (s .desk) ≡ true
+    → (p : ℕ) (l : Lock) → stageAt (s .desk) p ≡ Waiting l → let d = s .desk in
+    (length (others p d) ≤ 31) × (length (inFront p d) ≤ 31) × ((q : ℕ) → In q (inFront p d) → In q (others p d))
+    × ((steps : List AnyStep) → let ran = runAny steps s in let left-of = hasLeft (ran .events) in left-of p ≡ false
+    → (allLeft (inFront p d) (ran .events) ≡ true → stageAt (ran .state .desk) p ≡ Holding l)
+    × (allLeft (others p d) (ran .events) ≡ true → stageAt (ran .state .desk) p ≡ Holding l)
+    × ((stageAt (ran .state .desk) p ≡ Holding l → ⊥) → (count left-of (others p d) < 31) × (count left-of (inFront p d) < 31)))
+waits-already K s e q sound p l w =
+    let shape = shaped (s .desk) e q in
+    let (most, most′) = waited.others-at-most-31 K s shape sound p l w in (
+      most,
+      most′,
+      waited.in-front-others K s shape sound p l w,
+      λ steps stays. (
+        λ all. waited.waiter-not-passed-over K s shape sound p l w steps all stays,
+        λ all. waited.nobody-passed-over-later K s shape sound p l w steps all stays,
+        waited.later-before-31 K s shape sound p l w steps stays,
+      ),
+    )
+
+-- OVER ONE HIERARCHY, in a list as in demand 3 that starts behind the call, too
 run-passes-nobody : (K : Hierarchy) (d : Desk) (p : ℕ) (mode : Mode) (names : List ℕ) (nameCount : ℕ) → Begins K d p mode names nameCount
     → (s : State) → s .desk ≡ (enterStep K d p mode names nameCount) .desk → (steps : List Step) → let ran = run steps s in
     allLeft (ahead d) (ran .events) ≡ true → hasLeft (ran .events) p ≡ false → stageAt (ran .state .desk) p ≡ Holding (lockFor K mode (take nameCount names))
 run-passes-nobody K d p mode names nameCount (e, q, a) = hosts.run-passes-nobody K d (shaped d e q) p mode names nameCount a
 
--- AND OF A HOST'S OWN CALLS: each result meets the contract of its method, on the desk that the call before handed back, over any tables; of the values nothing is asked, since any buffer is
--- lent of none
+-- AND OF A HOST'S OWN CALLS: each result meets the contract of its method, on the desk that the call before handed back, over any tables. It is asked with no values given, and so of any buffer
+-- that get, put and add are lent for the values
 lent-any : (buffer : List ℕ) → Lent [] buffer
 lent-any buffer = inr refl
 
@@ -924,21 +959,25 @@ unfolding CallsMeet AnyContracts
 all-called d [] k = tt
 all-called d (c ∷ cs) (m, k) = (met (c .tables) d [] (c .result) m, all-called (deskFrom (c .result)) cs k)
 
--- the enter's own does, and says `Waits`: by the answers of these very calls
+-- the enter's own does, and says `Waits`: by the answers of these very calls, where those ahead have left the party holds, unless it left; and while it does not hold, fewer than 31 of them have
 results-pass-nobody : (K : Hierarchy) (d : Desk) (p : ℕ) (mode : Mode) (names : List ℕ) (nameCount : ℕ) → length (d .entries) ≡ 32 → length (d .queue) ≡ 32
     → (r : EnterStep) → Enters r (enterStep K d p mode names nameCount) → r .answer ≡ Waits → (calls : List HostCall) → AnyContracts (r .desk) calls
-    → allLeft (ahead d) (toldBack calls) ≡ true → hasLeft (toldBack calls) p ≡ false
-    → stageAt (deskAfter (r .desk) calls) p ≡ Holding (lockFor K mode (take nameCount names))
-results-pass-nobody K d p mode names nameCount e q r m a calls k =
-    hosts.results-pass-nobody K d (shaped d e q) p mode names nameCount r m a calls (all-called (r .desk) calls k)
+    → hasLeft (toldBack calls) p ≡ false → let lock = lockFor K mode (take nameCount names) in let last = deskAfter (r .desk) calls in
+    (allLeft (ahead d) (toldBack calls) ≡ true → stageAt last p ≡ Holding lock)
+    × ((stageAt last p ≡ Holding lock → ⊥) → count (hasLeft (toldBack calls)) (ahead d) < 31)
+results-pass-nobody K d p mode names nameCount e q r m a calls k stays =
+    let met = all-called (r .desk) calls k in (
+      λ all. hosts.results-pass-nobody K d (shaped d e q) p mode names nameCount r m a calls met all stays,
+      hosts.results-before-31 K d (shaped d e q) p mode names nameCount r m a calls met stays,
+    )
 
 -- IT IS THE PAPER'S RULES THAT DO IT: they pass nobody over,
 paper-passes-nobody : NobodyPassedOver paperRules ahead
 paper-passes-nobody = shams.paper-passes-nobody
 
--- and it is false of a desk that lets newcomers pass those that wait, of one that takes the waiters from the back, and where only the holders count as ahead
+-- and it is false of a desk that lets newcomers pass waiters that they conflict with, of one that takes the waiters from the back, and, by the paper's rules, where only the holders count as ahead
 others-pass-over : (NobodyPassedOver newcomersPass ahead → ⊥) × (NobodyPassedOver fromTheBack ahead → ⊥) × (NobodyPassedOver paperRules onlyHolders → ⊥)
-others-pass-over = (shams.newcomers-pass-over, shams.back-passes-over, shams.waiters-count)
+others-pass-over = (shams.newcomers-pass-over, shams.back-passes-over, shams.only-holders-pass-over)
 
 -- THE STARRED CASES, with the papers' figures, those of {8}, of the ninth case and of the listing as document 02's points 1 and 4 have them: each passes, by computation. Table T and
 -- the table of the ninth case

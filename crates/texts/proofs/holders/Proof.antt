@@ -10,7 +10,8 @@ use Rattle.lists.proofs.Loops.{field-length, count-end, one-most}
 use Rattle.parties.specs.declared.Entry.{Entry}
 use Rattle.locks.specs.declared.Stage.the-variants.{Out}
 use Rattle.parties.specs.Parties.{entryOf}
-use Rattle.replay.specs.Replay.{isHolding, holdersAt}
+use Rattle.locks.specs.Stages.{isHolding}
+use Rattle.replay.specs.Replay.{holdersAt}
 use Rattle.replay.proofs.Records.{count-turn}
 use Rattle.texts.proofs.holders.Statement.{statement}
 use Rattle.texts.proofs.holders.Tie as tie
