@@ -80,6 +80,24 @@ waiting-present Out e = e
 waiting-present (Waiting l) e = refl
 waiting-present (Holding l) e = refl
 
+-- those in front of a party are the parties that hold, and those before it in arrival order
+pub in-front-are : (p : ℕ) (d : Desk) (q : ℕ)
+    → (In q (inFront p d) → (q < 32) × ((isHolding (stageAt d q) ≡ true) ⊎ In q (frontOf p (queueOf d))))
+    × ((q < 32) × ((isHolding (stageAt d q) ≡ true) ⊎ In q (frontOf p (queueOf d))) → In q (inFront p d))
+in-front-are p d q = (λ i. let (j, t) = keep-in inTheWay q (numbersBelow 32) i in (in-below 32 q j, found t), λ (h, t). in-keep inTheWay (below-in 32 q h) (seen t))
+  where
+    inTheWay : ℕ → Bool
+    inTheWay party = isHolding (stageAt d party) || any (eqb party) (frontOf p (queueOf d))
+
+    found : inTheWay q ≡ true → (isHolding (stageAt d q) ≡ true) ⊎ In q (frontOf p (queueOf d))
+    found t =
+        or-either (isHolding (stageAt d q)) (any (eqb q) (frontOf p (queueOf d))) t inl
+        (λ a. let (r, m, e) = any-found (eqb q) (frontOf p (queueOf d)) a in inr (subst (λ (x : ℕ). In x (frontOf p (queueOf d))) (sym (eqb-true q r e)) m))
+
+    seen : (isHolding (stageAt d q) ≡ true) ⊎ In q (frontOf p (queueOf d)) → inTheWay q ≡ true
+    seen (inl h) = rw h refl
+    seen (inr m) = or-second (isHolding (stageAt d q)) (any (eqb q) (frontOf p (queueOf d))) (any-in (eqb q) m (eq-eqb q q refl))
+
 -- A LIST OF STEPS, until nobody is left in S
 run-holds : (p : ℕ) (l : Lock) (steps : List AnyStep) (s : State) (S : ℕ → Type 0) → Kept p l S (s .desk)
     → ((q : ℕ) → S q → hasLeft ((runAny steps s) .events) q ≡ true) → hasLeft ((runAny steps s) .events) p ≡ false
@@ -361,10 +379,6 @@ module _ (K : Hierarchy) (s : State) (shape : Shaped (s .desk)) (sound : soundDe
   below : p < 32
   below = omega (arith, waiter-below (d .entries) p l w, shape .entries)
 
-  -- who is in front of it
-  abbrev inTheWay : ℕ → Bool
-  inTheWay party = isHolding (stageAt d party) || any (eqb party) (frontOf p (queueOf d))
-
   -- as soon as those who hold, and those who wait before it, have left, it holds what it waits for, unless it left
   pub waiter-not-passed-over : (steps : List AnyStep) → allLeft (inFront p d) ((runAny steps s) .events) ≡ true → hasLeft ((runAny steps s) .events) p ≡ false
       → stageAt ((runAny steps s) .state .desk) p ≡ Holding l
@@ -378,22 +392,14 @@ module _ (K : Hierarchy) (s : State) (shape : Shaped (s .desk)) (sound : soundDe
       (λ q i. every-in (hasLeft ((runAny steps s) .events)) all i) stays
     where
       waiter : (q : ℕ) → Before q p (queueOf d) → In q (inFront p d)
-      waiter q b =
-          in-keep inTheWay (below-in 32 q (orderly .parties q (before-in q p (queueOf d) b)))
-          (or-second (isHolding (stageAt d q)) (any (eqb q) (frontOf p (queueOf d))) (any-in (eqb q) (before-front q p (queueOf d) (orderly .once) b) (eq-eqb q q refl)))
+      waiter q b = in-front-are p d q .1 (orderly .parties q (before-in q p (queueOf d) b), inr (before-front q p (queueOf d) (orderly .once) b))
 
       holder : (q : ℕ) (h : Lock) → stageAt d q ≡ Holding h → In q (inFront p d)
-      holder q h e = in-keep inTheWay (below-in 32 q (omega (arith, holder-below (d .entries) q h e, shape .entries))) (rw e refl)
+      holder q h e = in-front-are p d q .1 (omega (arith, holder-below (d .entries) q h e, shape .entries), inl (ap isHolding e))
 
   -- they are some of the others who hold or wait there,
   pub in-front-others : (q : ℕ) → In q (inFront p d) → In q (others p d)
-  in-front-others q i =
-      let (j, t) = keep-in inTheWay q (numbersBelow 32) i in
-      or-either (isHolding (stageAt d q)) (any (eqb q) (frontOf p (queueOf d))) t
-      (λ h. other q (λ e. not-both (isHolding (stageAt d p)) (subst (λ (k : ℕ). isHolding (stageAt d k) ≡ true) e h) (ap isHolding w)) (in-below 32 q j) (holding-present (stageAt d q) h))
-      (λ a. let (r, m, e) = any-found (eqb q) (frontOf p (queueOf d)) a in
-      let (k, ne) = front-in q p (queueOf d) (subst (λ (x : ℕ). In x (frontOf p (queueOf d))) (sym (eqb-true q r e)) m) in
-      other q ne (in-below 32 q j) (waiting-present (stageAt d q) (orderly .waits q k)))
+  in-front-others q i = let (h, t) = in-front-are p d q .0 i in by h t
     where
       other : (r : ℕ) → r ≢ p → r < 32 → isPresent d r ≡ true → In r (others p d)
       other r ne h e = in-keep (λ party. not (eqb party p)) (ahead-in d r h e) (rw (ne-eqb r p ne))
@@ -402,6 +408,11 @@ module _ (K : Hierarchy) (s : State) (shape : Shaped (s .desk)) (sound : soundDe
       holding-present Out e = e
       holding-present (Waiting g) e = refl
       holding-present (Holding g) e = refl
+
+      by : q < 32 → (isHolding (stageAt d q) ≡ true) ⊎ In q (frontOf p (queueOf d)) → In q (others p d)
+      by h (inl t) =
+          other q (λ e. not-both (isHolding (stageAt d p)) (subst (λ (k : ℕ). isHolding (stageAt d k) ≡ true) e t) (ap isHolding w)) h (holding-present (stageAt d q) t)
+      by h (inr m) = let (k, ne) = front-in q p (queueOf d) m in other q ne h (waiting-present (stageAt d q) (orderly .waits q k))
 
   -- so it is so, too, as soon as all others have left
   pub nobody-passed-over-later : (steps : List AnyStep) → allLeft (others p d) ((runAny steps s) .events) ≡ true → hasLeft ((runAny steps s) .events) p ≡ false
@@ -414,7 +425,7 @@ module _ (K : Hierarchy) (s : State) (shape : Shaped (s .desk)) (sound : soundDe
   pub others-at-most-31 : (length (others p d) ≤ 31) × (length (inFront p d) ≤ 31)
   others-at-most-31 = (
     few (others p d) (distinct-keep (λ party. not (eqb party p)) (ahead d) (ahead-once d)) (λ q i. i),
-    few (inFront p d) (distinct-keep inTheWay (numbersBelow 32) (distinct-numbers 32)) in-front-others,
+    few (inFront p d) (distinct-keep _ (numbersBelow 32) (distinct-numbers 32)) in-front-others,
   )
     where
       few : (xs : List ℕ) → Distinct xs → ((q : ℕ) → In q xs → In q (others p d)) → length xs ≤ 31

@@ -3,10 +3,11 @@ use mathlib.Core.Path.{_≡_, refl, sym, ap, _∙_, subst}
 use mathlib.Core.List.{List, [], _∷_, map}
 use mathlib.Core.Bool.{true, false}
 use Prim.Native.Nat.{ℕ, _<_}
-use lib.ListN.{take}
+use lib.ListN.{length, take}
 use mathlib.Core.Logic.{_≢_}
 use Rattle.lists.specs.Lists.{count}
 use Rattle.lists.specs.Answer.{done}
+use Rattle.lists.proofs.Members.{In}
 use Rattle.locks.specs.declared.Mode.{Mode}
 use Rattle.locks.specs.declared.Stage.the-variants.{Holding}
 use Rattle.locks.specs.Lent.{Hierarchy, lockFor}
@@ -21,8 +22,8 @@ use Rattle.history.specs.Results.{Result, enter as entering, get as getting, pu
 use Rattle.history.proofs.Results.{lend-all, callFor, between, moved-alike, left-alike}
 use Rattle.soundness.proofs.Orderly.{Shaped}
 use Rattle.fairness.specs.AnySteps.{AnyStep, runAny, HostCall, CallsMeet, toldBack, deskAfter}
-use Rattle.fairness.specs.Ahead.{ahead, hasLeft, allLeft}
-use Rattle.fairness.proofs.Fairness.{nobody-passed-over, before-31-leaves}
+use Rattle.fairness.specs.Ahead.{ahead, visitLeft}
+use Rattle.fairness.proofs.Fairness.{no-visit-passed-over, visits-before}
 
 -- A LIST OVER ONE HIERARCHY is such a list: its steps, each with the tables as it is lent them
 lentEach : List Step → State → List AnyStep
@@ -37,12 +38,13 @@ run-any (x ∷ xs) s = ap (alsoRan (move x s)) (run-any xs ((move x s) .state))
 -- so nobody is passed over in it
 pub run-passes-nobody : (K : Hierarchy) (d : Desk) → Shaped d → (p : ℕ) (mode : Mode) (names : List ℕ) (nameCount : ℕ)
     → (enterStep K d p mode names nameCount) .answer ≡ done waits → (s : State) → s .desk ≡ (enterStep K d p mode names nameCount) .desk → (steps : List Step)
-    → allLeft (ahead d) ((run steps s) .events) ≡ true → hasLeft ((run steps s) .events) p ≡ false
+    → ((q : ℕ) → In q (ahead d) → visitLeft ((run steps s) .events) q ≡ true) → visitLeft ((run steps s) .events) p ≡ false
     → stageAt ((run steps s) .state .desk) p ≡ Holding (lockFor K mode (take nameCount names))
 run-passes-nobody K d shape p mode names nameCount answered s same steps =
-    subst (λ (ran : Ran). allLeft (ahead d) (ran .events) ≡ true → hasLeft (ran .events) p ≡ false → stageAt (ran .state .desk) p ≡ Holding (lockFor K mode (take nameCount names)))
+    subst (λ (ran : Ran). ((q : ℕ) → In q (ahead d) → visitLeft (ran .events) q ≡ true) → visitLeft (ran .events) p ≡ false
+    → stageAt (ran .state .desk) p ≡ Holding (lockFor K mode (take nameCount names)))
     (sym (run-any steps s))
-    (nobody-passed-over K d shape p mode names nameCount answered s same (lentEach steps s))
+    (no-visit-passed-over K d shape p mode names nameCount answered s same (lentEach steps s))
 
 -- A HOST'S OWN CALL as a step: any buffer is lent of no values
 stepOf : HostCall → AnyStep
@@ -81,17 +83,19 @@ module _ (K : Hierarchy) (d : Desk) (shape : Shaped d) (p : ℕ) (mode : Mode) (
   its-answer : (enterStep K d p mode names nameCount) .answer ≡ done waits
   its-answer = sym (met .1) ∙ ap enterMeaning answered
 
-  pub results-pass-nobody : allLeft (ahead d) (toldBack calls) ≡ true → hasLeft (toldBack calls) p ≡ false
+  pub results-pass-nobody : ((q : ℕ) → In q (ahead d) → visitLeft (toldBack calls) q ≡ true) → visitLeft (toldBack calls) p ≡ false
       → stageAt (deskAfter (r .desk) calls) p ≡ Holding (lockFor K mode (take nameCount names))
   results-pass-nobody =
-      subst (λ (ran : Ran). allLeft (ahead d) (ran .events) ≡ true → hasLeft (ran .events) p ≡ false → stageAt (ran .state .desk) p ≡ Holding (lockFor K mode (take nameCount names)))
+      subst (λ (ran : Ran). ((q : ℕ) → In q (ahead d) → visitLeft (ran .events) q ≡ true) → visitLeft (ran .events) p ≡ false
+      → stageAt (ran .state .desk) p ≡ Holding (lockFor K mode (take nameCount names)))
       (calls-run K calls (r .desk) all-met)
-      (nobody-passed-over K d shape p mode names nameCount its-answer first (met .0) (map stepOf calls))
+      (no-visit-passed-over K d shape p mode names nameCount its-answer first (met .0) (map stepOf calls))
 
-  -- and while it does not, fewer than 31 of those ahead have left
-  pub results-before-31 : hasLeft (toldBack calls) p ≡ false → stageAt (deskAfter (r .desk) calls) p ≢ Holding (lockFor K mode (take nameCount names))
-      → count (hasLeft (toldBack calls)) (ahead d) < 31
-  results-before-31 =
-      subst (λ (ran : Ran). hasLeft (ran .events) p ≡ false → stageAt (ran .state .desk) p ≢ Holding (lockFor K mode (take nameCount names)) → count (hasLeft (ran .events)) (ahead d) < 31)
+  -- and while it does not, and has not left, fewer than 31 of the visits ahead have left
+  pub results-before-31 : visitLeft (toldBack calls) p ≡ false → stageAt (deskAfter (r .desk) calls) p ≢ Holding (lockFor K mode (take nameCount names))
+      → count (visitLeft (toldBack calls)) (ahead d) < 31
+  results-before-31 stays not-yet =
+      subst (λ (ran : Ran). visitLeft (ran .events) p ≡ false → stageAt (ran .state .desk) p ≢ Holding (lockFor K mode (take nameCount names))
+      → (count (visitLeft (ran .events)) (ahead d) < 31) × (count (visitLeft (ran .events)) (ahead d) < length (ahead d)))
       (calls-run K calls (r .desk) all-met)
-      (before-31-leaves K d shape p mode names nameCount its-answer first (met .0) (map stepOf calls))
+      (visits-before K d shape p mode names nameCount its-answer first (met .0) (map stepOf calls)) stays not-yet .0

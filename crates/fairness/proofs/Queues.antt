@@ -1,5 +1,5 @@
 -- Who stands before whom in a list, and the arrival list of a desk that was made of a list. Assumes nothing.
-use mathlib.Core.Path.{_≡_, refl, sym, subst, _∙_}
+use mathlib.Core.Path.{_≡_, refl, sym, ap, subst, _∙_}
 use mathlib.Core.Logic.{_⊎_, inl, inr, _≢_}
 use mathlib.Core.List.{List, [], _∷_, _++_}
 use mathlib.Core.Bool.{Bool}
@@ -7,7 +7,7 @@ use Prim.Native.Nat.{ℕ, zero, suc, _≤_, _<_}
 use native.Mathlib.Omega.{arith}
 use lib.Dec.{eqb}
 use lib.ListN.{length, getD, take}
-use borrow.Author.Tests.{eqb-false, ne-eqb}
+use borrow.Author.Tests.{eqb-false, eq-eqb, ne-eqb}
 use Rattle.lists.specs.Lists.{keep}
 use Rattle.lists.proofs.Bools.{bool}
 use Rattle.lists.proofs.Members.{In, head, tail, in-nil, in-cons}
@@ -97,6 +97,12 @@ front-in q p (x ∷ xs) i =
     bool (eqb x p)
     (λ e. in-nil (rw e at i))
     (λ e. in-cons (rw e at i) (λ c. (subst (λ (k : ℕ). In k (x ∷ xs)) c head, λ f. eqb-false x p e (c ∙ f))) (λ j. let (k, ne) = front-in q p xs j in (tail k, ne)))
+
+-- and it is what stands before the party where that stands first
+pub front-is : (p : ℕ) (xs ys : List ℕ) → (In p xs → ⊥) → frontOf p (xs ++ (p ∷ ys)) ≡ xs
+unfolding frontOf
+front-is p [] ys n = rw (eq-eqb p p refl)
+front-is p (x ∷ xs) ys n = rw (ne-eqb x p (λ e. n (subst (λ (k : ℕ). In k (x ∷ xs)) e head))) (ap (x ∷_) (front-is p xs ys (λ i. n (tail i))))
 
 -- A DESK MADE OF A LIST has that arrival list, where the 32 places hold it
 pub queue-made : (d : Desk) (list : List ℕ) → d .queue ≡ queuePlaces list → d .waiting ≡ length list → length list ≤ 32 → queueOf d ≡ list

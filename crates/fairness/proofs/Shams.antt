@@ -29,7 +29,7 @@ use Rattle.fairness.specs.AnySteps.{AnyStep, runAny}
 use Rattle.fairness.specs.Ahead.{numbersBelow, ahead, hasLeft, allLeft}
 use Rattle.fairness.specs.Rules.{paperRules, newcomersPass, fromTheBack, onlyHolders, enterBy, leaveBy, moveBy, runBy, NobodyPassedOver}
 use Rattle.fairness.proofs.Fairness.{nobody-passed-over}
-use Rattle.fairness.proofs.Written.{desk, one, whole, at, comes, goes}
+use Rattle.fairness.proofs.Written.{lock, desk, one, whole, at, comes, goes}
 
 -- BY THE PAPER'S RULES a step is the desk's: enter,
 enter-same : (o : Option ℕ) (d : Desk) (party : ℕ) (l : Lock) → enterBy paperRules o d party l ≡ enterUnless o d party l
@@ -80,10 +80,18 @@ readerBehind = at (desk (Holding (whole Reading) ∷ Waiting (whole Writing) ∷
 abbrev readerSteps : List AnyStep
 readerSteps = comes one 2 Reading (0 ∷ []) ∷ goes one 0 32 ∷ []
 
-pub newcomers-told : (runBy newcomersPass readerSteps readerBehind) .events ≡ entered 2 (done (granted 0)) ∷ left 0 (done []) ∷ []
+-- so are writers: over two nodes below the root, 0 writes the one, and 1 would write both; 2 writes the other
+abbrev two : Hierarchy
+two = record { n = 3; intervals = 1 ∷ 2 ∷ 1 ∷ 1 ∷ 2 ∷ 2 ∷ []; edges = 0 ∷ 1 ∷ 0 ∷ 2 ∷ []; edgeCount = 2 }
+
+abbrev bothBehind : State
+bothBehind = at (desk (Holding (lock Writing 1 1 1 (1 ∷ [])) ∷ Waiting (lock Writing 0 1 2 (1 ∷ 2 ∷ [])) ∷ []) (1 ∷ []) [])
+
+pub newcomers-told : ((runBy newcomersPass readerSteps readerBehind) .events ≡ entered 2 (done (granted 0)) ∷ left 0 (done []) ∷ [])
+    × ((runBy newcomersPass (comes two 2 Writing (2 ∷ []) ∷ []) bothBehind) .events ≡ entered 2 (done (granted 2)) ∷ [])
 unfolding allBelow anyBelow every any keep over foldFrom least greatest refusal someEdge closest insert insertAll risesFrom soundParties offer sweep countGrants enterStep afterEnter listed afterLeave
     alsoRan numbersBelow moveBy runBy
-newcomers-told = refl
+newcomers-told = (refl, refl)
 
 pub newcomers-pass-over : NobodyPassedOver newcomersPass ahead → ⊥
 unfolding allBelow anyBelow every any keep over foldFrom least greatest refusal someEdge closest insert insertAll risesFrom soundParties offer sweep countGrants enterStep afterEnter listed afterLeave
@@ -102,10 +110,15 @@ writerBehind = desk (Holding (whole Writing) ∷ Waiting (whole Writing) ∷ [])
 abbrev writerSteps : List AnyStep
 writerSteps = comes one 2 Writing (0 ∷ []) ∷ goes one 0 32 ∷ []
 
-pub back-told : (runBy fromTheBack writerSteps (at writerBehind)) .events ≡ entered 2 (done waits) ∷ left 0 (done (2 ∷ [])) ∷ []
+-- of three readers behind a writer, the last to come is granted first
+abbrev readersBehind : State
+readersBehind = at (desk (Holding (whole Writing) ∷ Waiting (whole Reading) ∷ Waiting (whole Reading) ∷ Waiting (whole Reading) ∷ []) (3 ∷ 1 ∷ 2 ∷ []) [])
+
+pub back-told : ((runBy fromTheBack writerSteps (at writerBehind)) .events ≡ entered 2 (done waits) ∷ left 0 (done (2 ∷ [])) ∷ [])
+    × ((runBy fromTheBack (goes one 0 32 ∷ []) readersBehind) .events ≡ left 0 (done (2 ∷ 1 ∷ 3 ∷ [])) ∷ [])
 unfolding allBelow anyBelow every any keep over foldFrom least greatest refusal someEdge closest insert insertAll risesFrom soundParties offer sweep countGrants enterStep afterEnter listed afterLeave
     alsoRan numbersBelow moveBy runBy
-back-told = refl
+back-told = (refl, refl)
 
 pub back-passes-over : NobodyPassedOver fromTheBack ahead → ⊥
 unfolding allBelow anyBelow every any keep over foldFrom least greatest refusal someEdge closest insert insertAll risesFrom soundParties offer sweep countGrants enterStep afterEnter listed afterLeave
@@ -113,6 +126,13 @@ unfolding allBelow anyBelow every any keep over foldFrom least greatest refusal 
 back-passes-over claim =
     waits-not (stageAt ((runBy fromTheBack writerSteps (at writerBehind)) .state .desk) 1) (whole Writing) refl
     (claim one writer refl refl 1 Writing (0 ∷ []) 1 refl (at writerBehind) refl writerSteps refl refl)
+
+-- BY THE PAPER'S RULES the same steps let 1 in, in both cases
+pub paper-told : ((runBy paperRules readerSteps readerBehind) .events ≡ entered 2 (done waits) ∷ left 0 (done (1 ∷ [])) ∷ [])
+    × ((runBy paperRules writerSteps (at writerBehind)) .events ≡ entered 2 (done waits) ∷ left 0 (done (1 ∷ [])) ∷ [])
+unfolding allBelow anyBelow every any keep over foldFrom least greatest refusal someEdge closest insert insertAll risesFrom soundParties offer sweep countGrants enterStep afterEnter listed afterLeave
+    alsoRan numbersBelow moveBy runBy
+paper-told = (refl, refl)
 
 -- ONLY THE HOLDERS COUNT: 0 writes; 1 would, and waits; 2 would, and waits behind it. 0, the only holder, leaves: 1 is granted, and 2 still waits
 abbrev twoBehind : State

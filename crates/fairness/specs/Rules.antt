@@ -69,8 +69,8 @@ unfoldable pub runBy : Rules → List AnyStep → State → Ran
 runBy rules [] s = record { state = s; events = [] }
 runBy rules (x ∷ xs) s = alsoRan (moveBy rules (x .tables) (x .call) s) (runBy rules xs ((moveBy rules (x .tables) (x .call) s) .state))
 
--- NOBODY IS PASSED OVER by a desk with these rules, where `first` are those that have to leave first: a call of a party begins to wait at a desk; then come any steps,
--- among which all those have left, and its own party has not: the party holds what it called for
+-- NOBODY IS PASSED OVER by a desk with these rules, where `first` are those who count as ahead: a call of a party begins to wait at a desk; then come any steps, among which all
+-- those have left, and its own party has not: the party holds what it called for
 abbrev pub NobodyPassedOver : Rules → (first : Desk → List ℕ) → Type 0
 NobodyPassedOver rules first =
     (K : Hierarchy) (d : Desk) → length (d .entries) ≡ 32 → length (d .queue) ≡ 32 → (p : ℕ) (mode : Mode) (names : List ℕ) (nameCount : ℕ)

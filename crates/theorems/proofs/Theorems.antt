@@ -27,13 +27,13 @@ use Rattle.locks.specs.declared.Lock.{Lock}
 use Rattle.locks.specs.Locks.{compatible, share, conflict}
 use Rattle.locks.specs.declared.Stage.{Stage}
 use Rattle.locks.specs.declared.Stage.the-variants.{Out, Waiting, Holding}
-use Rattle.locks.specs.Stages.{isOut}
+use Rattle.locks.specs.Stages.{isOut, isHolding}
 use Rattle.naming.specs.declared.Names.{Names}
 use Rattle.naming.specs.Names.{rises, ascending, namesOf, namesRight, named}
 use Rattle.locks.specs.Lent.{Hierarchy, lent, lowIn, highIn, coverIn, tablesShort, lockFor, insideLock}
 use Rattle.grants.specs.Grants.{noGrants, countGrants}
 use Rattle.desk.specs.declared.Desk.{Desk}
-use Rattle.desk.specs.Desks.{freshDesk, stageAt}
+use Rattle.desk.specs.Desks.{freshDesk, stageAt, queueOf}
 use Rattle.desk.specs.Sound.{soundDesk}
 use Rattle.desk.specs.declared.EnterStep.{EnterStep}
 use Rattle.desk.specs.declared.EnterAnswer.the-variants.{Waits}
@@ -47,8 +47,8 @@ use Rattle.history.specs.Results.{Result, enter, get, put, add, leave, Made, Me
 use Rattle.soundness.specs.Refused.{refusedWith}
 use Rattle.soundness.specs.Given.{givenIn, Keeps}
 use Rattle.fairness.specs.AnySteps.{AnyStep, enterWith, moveAny, runAny, HostCall, CallsMeet, toldBack, deskAfter}
-use Rattle.fairness.specs.Ahead.{isPresent, ahead, inFront, others, isLeave, isEnter, hasLeft, allLeft, visitLeft}
-use Rattle.fairness.specs.Rules.{paperRules, newcomersPass, fromTheBack, onlyHolders, NobodyPassedOver}
+use Rattle.fairness.specs.Ahead.{isPresent, ahead, frontOf, inFront, others, isLeave, isEnter, hasLeft, allLeft, visitLeft}
+use Rattle.fairness.specs.Rules.{Rules, paperRules, newcomersPass, fromTheBack, onlyHolders, enterBy, runBy}
 use Rattle.file_laws.specs.Files.{eventsOf}
 use Rattle.replay.specs.Replay.{waits, stored, left, FileRun, granted as admitted, refused as denied, recordList, stepRecords, sizeOf, edgeTable, edgeCountOf, answersOf}
 use Rattle.replay.specs.Replay.{performAll, runFile}
@@ -64,7 +64,7 @@ use Rattle.needless_laws.specs.Visits.{OneEach}
 use Rattle.lists.proofs.Marks.{zero-at}
 use Rattle.lists.proofs.Members.{In}
 use Rattle.lists.proofs.Bools.{bool, not-both}
-use Rattle.lists.proofs.Distinct.{every-in, in-keep, keep-in, Distinct}
+use Rattle.lists.proofs.Distinct.{every-in, every-of, in-keep, keep-in, Distinct}
 use Rattle.interval_laws.proofs.Laws as laws
 use Rattle.interval_laws.proofs.Scratch as building
 use Rattle.intervals.proofs.Bounds as bounds-laws
@@ -87,6 +87,7 @@ use Rattle.soundness.proofs.Given as given
 use Rattle.soundness.proofs.Seen as seen
 use Rattle.soundness.proofs.Scratch as used
 use Rattle.soundness.proofs.Orderly.{Shaped}
+use Rattle.fairness.proofs.Queues as lists-of
 use Rattle.fairness.proofs.Visits as visits
 use Rattle.fairness.proofs.Fairness as waited
 use Rattle.fairness.proofs.Hosts as hosts
@@ -821,14 +822,14 @@ Begins K d p mode names nameCount = (length (d .entries) ≡ 32) × (length (d .
 shaped : (d : Desk) → length (d .entries) ≡ 32 → length (d .queue) ≡ 32 → Shaped d
 shaped d e q = record { entries = e; queue = q }
 
--- a call begins to wait at a desk only that is sound over the tables that it is lent: at any other it is refused, with 10 at the latest. Its party is out there,
+-- a call begins to wait only at a desk that is sound over the tables that it is lent (at any other it is refused, with 10 at the latest), and only where its party is out,
 begins-sound : (K : Hierarchy) (d : Desk) (p : ℕ) (mode : Mode) (names : List ℕ) (nameCount : ℕ) → Begins K d p mode names nameCount
     → (soundDesk K d ≡ true) × (stageAt d p ≡ Out)
 begins-sound K d p mode names nameCount (e, q, a) =
     (waited.waits-sound K d (shaped d e q) p mode names nameCount a, waited.waits-out K d (shaped d e q) p mode names nameCount a)
 
--- and then comes any list of steps, each lent any tables and any buffers, each having the desk that the one before handed back (`runAny`), the first that of the enter. AS SOON AS the
--- visit or call that each party had, which was holding or waiting when the call began to wait, has left (`visitLeft`), the call holds, unless its own has left
+-- and then comes any list of steps, each lent any tables and any buffers, each having the desk that the one before handed back (`runAny`), the first that of the enter. AS SOON AS, of each
+-- party that was holding or waiting when the call began to wait, the visit that it had then has left (`visitLeft`), the call holds, unless its own party left
 nobody-passed-over : (K : Hierarchy) (d : Desk) (p : ℕ) (mode : Mode) (names : List ℕ) (nameCount : ℕ) → Begins K d p mode names nameCount
     → (s : State) → s .desk ≡ (enterStep K d p mode names nameCount) .desk → (steps : List AnyStep) → let ran = runAny steps s in
     ((q : ℕ) → q < 32 → (stageAt d q ≡ Out → ⊥) → visitLeft (ran .events) q ≡ true) → visitLeft (ran .events) p ≡ false
@@ -850,7 +851,8 @@ ahead-most K d p mode names nameCount (e, q, a) =
     let s : State = record { hierarchy = K; desk = (enterStep K d p mode names nameCount) .desk; values = [] } in
     (waited.some-ahead K d (shaped d e q) p mode names nameCount a s refl, waited.at-most-31 K d (shaped d e q) p mode names nameCount a)
 
--- SO AT MOST 31 LEAVES, those of these visits, stand before the call: while it does not hold, fewer than 31 of these visits have left, and fewer than they are, whatever else was done among them
+-- SO AT MOST 31 LEAVES, those of these visits, stand before the call: while it does not hold, and its party has not left, fewer than 31 of these visits have left, and fewer than they are, whatever else was
+-- done among them
 leaves-before : (K : Hierarchy) (d : Desk) (p : ℕ) (mode : Mode) (names : List ℕ) (nameCount : ℕ) → Begins K d p mode names nameCount
     → (s : State) → s .desk ≡ (enterStep K d p mode names nameCount) .desk → (steps : List AnyStep) → let ran = runAny steps s in
     visitLeft (ran .events) p ≡ false → (stageAt (ran .state .desk) p ≡ Holding (lockFor K mode (take nameCount names)) → ⊥)
@@ -884,12 +886,17 @@ visit-lasts : (q : ℕ) (l : Lock) (s : State) (steps : List AnyStep) → let ra
     → ((stage ≡ Holding l) ⊎ (stage ≡ Waiting l)) × (any (isEnter q) (ran .events) ≡ false)
 visit-lasts = visits.visit-lasts
 
+-- a hold among them staying a hold;
+hold-lasts : (q : ℕ) (l : Lock) (s : State) (steps : List AnyStep) → stageAt (s .desk) q ≡ Holding l → hasLeft ((runAny steps s) .events) q ≡ false
+    → stageAt ((runAny steps s) .state .desk) q ≡ Holding l
+hold-lasts = visits.hold-lasts
+
 -- its first leave that is not refused ends it,
 leave-ends : (x : AnyStep) (s : State) (q : ℕ) → isLeave q ((moveAny x s) .event) ≡ true → stageAt ((moveAny x s) .state .desk) q ≡ Out
 leave-ends = visits.leave-ends
 
--- so that the visit that it had has left (a leave of its that was not refused stands before any enter of its that was not refused) just where the party has left at all: what is said by parties
--- (`hasLeft`, `allLeft`), here and below, is said by visits (`visitLeft`),
+-- so that the visit that it had has left (a leave of its that was not refused stands before any enter of its that was not refused) just where the party has left at all, if it was
+-- there at first: what is said by parties (`hasLeft`, `allLeft`) of those who were, in `as-soon-as` above and in `afterwards` and `waits-already` below, is said by visits,
 comes-back : (q : ℕ) (steps : List AnyStep) (s : State) → (stageAt (s .desk) q ≡ Out → ⊥) → let ran = runAny steps s in visitLeft (ran .events) q ≡ hasLeft (ran .events) q
 comes-back q steps s there =
     visits.comes-back q steps s (bool (isOut (stageAt (s .desk) q)) (λ e. absurd (there (entered.is-out (stageAt (s .desk) q) e))) (λ e. rw e refl))
@@ -909,6 +916,11 @@ afterwards : (K : Hierarchy) (d : Desk) (p : ℕ) (mode : Mode) (names : List �
     → stageAt ((runAny (first ++ more) s) .state .desk) p ≡ Holding (lockFor K mode (take nameCount names))
 afterwards K d p mode names nameCount (e, q, a) = waited.afterwards K d (shaped d e q) p mode names nameCount a
 
+-- all of a list of parties have left where each has
+all-left-are : (parties : List ℕ) (events : List (Event ℕ))
+    → (allLeft parties events ≡ true → (q : ℕ) → In q parties → hasLeft events q ≡ true) × (((q : ℕ) → In q parties → hasLeft events q ≡ true) → allLeft parties events ≡ true)
+all-left-are parties events = (λ all q i. every-in (hasLeft events) all i, every-of (hasLeft events) parties)
+
 -- all others that hold or wait at a desk, as a list
 others-are : (p : ℕ) (d : Desk) (q : ℕ) → (In q (others p d) → In q (ahead d) × (q ≡ p → ⊥)) × (In q (ahead d) × (q ≡ p → ⊥) → In q (others p d))
 others-are p d q = (
@@ -916,8 +928,17 @@ others-are p d q = (
   λ (j, ne). in-keep (λ party. not (eqb party p)) j (rw (ne-eqb q p ne)),
 )
 
+-- those in front of a party: who holds, and who stands before it in arrival order
+in-front-are : (p : ℕ) (d : Desk) (q : ℕ)
+    → (In q (inFront p d) → (q < 32) × ((isHolding (stageAt d q) ≡ true) ⊎ In q (frontOf p (queueOf d))))
+    × ((q < 32) × ((isHolding (stageAt d q) ≡ true) ⊎ In q (frontOf p (queueOf d))) → In q (inFront p d))
+in-front-are = waited.in-front-are
+
+front-is : (p : ℕ) (xs ys : List ℕ) → (In p xs → ⊥) → frontOf p (xs ++ (p ∷ ys)) ≡ xs
+front-is = lists-of.front-is
+
 -- OF A PARTY THAT WAITS ALREADY, at any sound desk: as soon as those who hold there, and those who wait before it (`inFront`), have left, it holds what it waits for, unless it left; so, too, as
--- soon as all others who hold or wait there have. Either are at most 31, and while it does not hold, fewer than 31 of them have left
+-- soon as all others who hold or wait there have. Either are at most 31, and while it does not hold, and has not left, fewer than 31 of them have left
 waits-already : (K : Hierarchy) (s : State) → length (s .desk .entries) ≡ 32 → length (s .desk .queue) ≡ 32 → soundDesk K (s .desk) ≡ true
     → (p : ℕ) (l : Lock) → stageAt (s .desk) p ≡ Waiting l → let d = s .desk in
     (length (others p d) ≤ 31) × (length (inFront p d) ≤ 31) × ((q : ℕ) → In q (inFront p d) → In q (others p d))
@@ -938,10 +959,11 @@ waits-already K s e q sound p l w =
       ),
     )
 
--- OVER ONE HIERARCHY, in a list as in demand 3 that starts behind the call, too
+-- OVER ONE HIERARCHY, whichever, in a list as in demand 3 that starts behind the call, too
 run-passes-nobody : (K : Hierarchy) (d : Desk) (p : ℕ) (mode : Mode) (names : List ℕ) (nameCount : ℕ) → Begins K d p mode names nameCount
     → (s : State) → s .desk ≡ (enterStep K d p mode names nameCount) .desk → (steps : List Step) → let ran = run steps s in
-    allLeft (ahead d) (ran .events) ≡ true → hasLeft (ran .events) p ≡ false → stageAt (ran .state .desk) p ≡ Holding (lockFor K mode (take nameCount names))
+    ((q : ℕ) → In q (ahead d) → visitLeft (ran .events) q ≡ true) → visitLeft (ran .events) p ≡ false
+    → stageAt (ran .state .desk) p ≡ Holding (lockFor K mode (take nameCount names))
 run-passes-nobody K d p mode names nameCount (e, q, a) = hosts.run-passes-nobody K d (shaped d e q) p mode names nameCount a
 
 -- AND OF A HOST'S OWN CALLS: each result meets the contract of its method, on the desk that the call before handed back, over any tables. It is asked with no values given, and so of any buffer
@@ -959,24 +981,33 @@ unfolding CallsMeet AnyContracts
 all-called d [] k = tt
 all-called d (c ∷ cs) (m, k) = (met (c .tables) d [] (c .result) m, all-called (deskFrom (c .result)) cs k)
 
--- the enter's own does, and says `Waits`: by the answers of these very calls, where those ahead have left the party holds, unless it left; and while it does not hold, fewer than 31 of them have
+-- the enter's own does, and says `Waits`: by the answers of these very calls, where the visits ahead have left the party holds, unless it left; and while it does not hold, and has not left, fewer
+-- than 31 of them have
 results-pass-nobody : (K : Hierarchy) (d : Desk) (p : ℕ) (mode : Mode) (names : List ℕ) (nameCount : ℕ) → length (d .entries) ≡ 32 → length (d .queue) ≡ 32
     → (r : EnterStep) → Enters r (enterStep K d p mode names nameCount) → r .answer ≡ Waits → (calls : List HostCall) → AnyContracts (r .desk) calls
-    → hasLeft (toldBack calls) p ≡ false → let lock = lockFor K mode (take nameCount names) in let last = deskAfter (r .desk) calls in
-    (allLeft (ahead d) (toldBack calls) ≡ true → stageAt last p ≡ Holding lock)
-    × ((stageAt last p ≡ Holding lock → ⊥) → count (hasLeft (toldBack calls)) (ahead d) < 31)
+    → visitLeft (toldBack calls) p ≡ false → let lock = lockFor K mode (take nameCount names) in let last = deskAfter (r .desk) calls in
+    (((q : ℕ) → In q (ahead d) → visitLeft (toldBack calls) q ≡ true) → stageAt last p ≡ Holding lock)
+    × ((stageAt last p ≡ Holding lock → ⊥) → count (visitLeft (toldBack calls)) (ahead d) < 31)
 results-pass-nobody K d p mode names nameCount e q r m a calls k stays =
     let met = all-called (r .desk) calls k in (
       λ all. hosts.results-pass-nobody K d (shaped d e q) p mode names nameCount r m a calls met all stays,
       hosts.results-before-31 K d (shaped d e q) p mode names nameCount r m a calls met stays,
     )
 
--- IT IS THE PAPER'S RULES THAT DO IT: they pass nobody over,
-paper-passes-nobody : NobodyPassedOver paperRules ahead
+-- IT IS THE PAPER'S RULES THAT DO IT. The claim for a desk with these rules, where `first` are those who count as ahead (`enterBy`, `runBy`: as enter and as any list, but for the rules)
+abbrev PassesNobody : Rules → (first : Desk → List ℕ) → Type 0
+PassesNobody rules first =
+    (K : Hierarchy) (d : Desk) → length (d .entries) ≡ 32 → length (d .queue) ≡ 32 → (p : ℕ) (mode : Mode) (names : List ℕ) (nameCount : ℕ)
+    → let l = lockFor K mode (take nameCount names) in let began = enterBy rules (enterRefusal K d p names nameCount) d p l in began .answer ≡ done waiting
+    → (s : State) → s .desk ≡ began .desk → (steps : List AnyStep) → let ran = runBy rules steps s in
+    allLeft (first d) (ran .events) ≡ true → hasLeft (ran .events) p ≡ false → stageAt (ran .state .desk) p ≡ Holding l
+
+-- the paper's pass nobody over,
+paper-passes-nobody : PassesNobody paperRules ahead
 paper-passes-nobody = shams.paper-passes-nobody
 
 -- and it is false of a desk that lets newcomers pass waiters that they conflict with, of one that takes the waiters from the back, and, by the paper's rules, where only the holders count as ahead
-others-pass-over : (NobodyPassedOver newcomersPass ahead → ⊥) × (NobodyPassedOver fromTheBack ahead → ⊥) × (NobodyPassedOver paperRules onlyHolders → ⊥)
+others-pass-over : (PassesNobody newcomersPass ahead → ⊥) × (PassesNobody fromTheBack ahead → ⊥) × (PassesNobody paperRules onlyHolders → ⊥)
 others-pass-over = (shams.newcomers-pass-over, shams.back-passes-over, shams.only-holders-pass-over)
 
 -- THE STARRED CASES, with the papers' figures, those of {8}, of the ninth case and of the listing as document 02's points 1 and 4 have them: each passes, by computation. Table T and
