@@ -41,7 +41,7 @@ use Rattle.fairness.proofs.Queues.{Before, before-in, before-last, befo
 use Rattle.fairness.proofs.Visits.{hold-lasts, enter-present, comes-back, granted-listed}
 use Rattle.fairness.proofs.Behind.{sound-few, queue-last, Behind, Standing, Kept, nobody-ahead, call-kept}
 
--- THOSE AHEAD. The numbers below n are those, each once
+-- THOSE AHEAD. The list of the numbers below n has just these, each once
 below-in : (n p : ℕ) → p < n → In p (numbersBelow n)
 unfolding numbersBelow
 below-in zero p h = absurd (omega arith)
@@ -208,7 +208,7 @@ module _ (K : Hierarchy) (d : Desk) (shape : Shaped d) (p : ℕ) (mode : Mode) (
 
 -- A CALL OF p IS ANSWERED WAITS at the desk d, with any tables K. d is any desk of 32 entries and 32 places
 module _ (K : Hierarchy) (d : Desk) (shape : Shaped d) (p : ℕ) (mode : Mode) (names : List ℕ) (nameCount : ℕ) (answered : (enterStep K d p mode names nameCount) .answer ≡ done waits) where
-  -- the desk was sound: no other makes a call wait (it would be refused with 10)
+  -- the desk was sound over these tables: at no other does a call begin to wait (it is refused, with 10 at the latest)
   pub waits-sound : soundDesk K d ≡ true
   waits-sound = began K d shape p mode names nameCount answered .sound
 
@@ -236,7 +236,7 @@ module _ (K : Hierarchy) (d : Desk) (shape : Shaped d) (p : ℕ) (mode : Mode) (
         run-holds p (lockFor K mode (take nameCount names)) steps s (λ q. In q (ahead d)) (rw same (began K d shape p mode names nameCount answered .kept))
         (λ q i. every-in (hasLeft ((runAny steps s) .events)) all i) stays
 
-    -- those ahead are still there then, and so is the party
+    -- those ahead are still there when the steps begin, and so is the party
     ahead-there : (q : ℕ) → In q (ahead d) → isPresent (s .desk) q ≡ true
     ahead-there q i = rw same (enter-present K d p mode names nameCount q (in-ahead d q i .1))
 
@@ -303,7 +303,7 @@ module _ (K : Hierarchy) (d : Desk) (shape : Shaped d) (p : ℕ) (mode : Mode) (
         granted-listed ((runAny first s) .state) q p (lockFor K mode (take nameCount names)) parties not-yet last e
         (as-soon-as first last q i all (ap (isLeave q) e ∙ eq-eqb q q refl) stays)
 
-    -- SO AT MOST 31 LEAVES STAND BEFORE IT, those of the visits ahead: while it does not hold, of these fewer than all have left, whatever was done besides,
+    -- SO AT MOST 31 LEAVES STAND BEFORE IT, those of the visits ahead: while it does not hold, and its party has not left, fewer than all of these have left, whatever was done besides,
     pub fewer-left : (steps : List AnyStep) → hasLeft ((runAny steps s) .events) p ≡ false
         → stageAt ((runAny steps s) .state .desk) p ≢ Holding (lockFor K mode (take nameCount names))
         → count (hasLeft ((runAny steps s) .events)) (ahead d) < length (ahead d)
@@ -414,7 +414,7 @@ module _ (K : Hierarchy) (s : State) (shape : Shaped (s .desk)) (sound : soundDe
           other q (λ e. not-both (isHolding (stageAt d p)) (subst (λ (k : ℕ). isHolding (stageAt d k) ≡ true) e t) (ap isHolding w)) h (holding-present (stageAt d q) t)
       by h (inr m) = let (k, ne) = front-in q p (queueOf d) m in other q ne h (waiting-present (stageAt d q) (orderly .waits q k))
 
-  -- so it is so, too, as soon as all others have left
+  -- so it holds, too, as soon as all others have left
   pub nobody-passed-over-later : (steps : List AnyStep) → allLeft (others p d) ((runAny steps s) .events) ≡ true → hasLeft ((runAny steps s) .events) p ≡ false
       → stageAt ((runAny steps s) .state .desk) p ≡ Holding l
   nobody-passed-over-later steps all stays =
@@ -437,7 +437,7 @@ module _ (K : Hierarchy) (s : State) (shape : Shaped (s .desk)) (sound : soundDe
                 (λ q i. in-cons i (λ e. omega (arith, below)) (λ j. in-ahead d q (keep-in (λ party. not (eqb party p)) q (ahead d) (each q j) .0) .0)),
           )
 
-  -- and while it does not hold, fewer than 31 of either have left
+  -- and while it does not hold, and has not left, fewer than 31 of either have left
   pub later-before-31 : (steps : List AnyStep) → hasLeft ((runAny steps s) .events) p ≡ false → stageAt ((runAny steps s) .state .desk) p ≢ Holding l
       → (count (hasLeft ((runAny steps s) .events)) (others p d) < 31) × (count (hasLeft ((runAny steps s) .events)) (inFront p d) < 31)
   later-before-31 steps stays not-yet =

@@ -46,7 +46,7 @@ run-passes-nobody K d shape p mode names nameCount answered s same steps =
     (sym (run-any steps s))
     (no-visit-passed-over K d shape p mode names nameCount answered s same (lentEach steps s))
 
--- A HOST'S OWN CALL as a step: any buffer is lent of no values
+-- A HOST'S OWN CALL as a step, from a state with no values: what stands behind these is any buffer
 stepOf : HostCall → AnyStep
 stepOf c = record { tables = c .tables; call = callFor [] (c .result) }
 

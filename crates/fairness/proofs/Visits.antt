@@ -132,7 +132,7 @@ present-lasts x s q k n =
     let (k′, e) = call-lasts (λ y. isOut y ≡ false) (λ l i. refl) (λ i. true≢false i) q (x .tables) (x .call) s (not-true (isOut (stageAt (s .desk) q)) k) n in
     (rw k′ refl, e)
 
--- an enter leaves those there that are
+-- an enter leaves at the desk whoever holds or waits there
 pub enter-present : (K : Hierarchy) (d : Desk) (p : ℕ) (mode : Mode) (names : List ℕ) (nameCount : ℕ) (q : ℕ) → isPresent d q ≡ true
     → isPresent ((enterStep K d p mode names nameCount) .desk) q ≡ true
 unfolding moveCall afterEnter

@@ -139,7 +139,7 @@ full = desk readers [] []
 abbrev fullBehind : Desk
 fullBehind = desk (readers ++ (Waiting (whole Writing) ∷ [])) (31 ∷ []) []
 
--- 30 of them leave: it still waits; with the last of them it holds. So 31 is the least bound
+-- 30 of them leave: it still waits; with the last of them it holds. So no number below 31 would do
 pub thirty-one : ((enterStep one full 31 Writing (0 ∷ []) 1) .desk ≡ fullBehind) × (ahead full ≡ numbersBelow 31)
     × (stageAt ((runAny (map (λ party. goes one party 32) (numbersBelow 30)) (at fullBehind)) .state .desk) 31 ≡ Waiting (whole Writing))
     × (stageAt ((runAny (map (λ party. goes one party 32) (numbersBelow 31)) (at fullBehind)) .state .desk) 31 ≡ Holding (whole Writing))
