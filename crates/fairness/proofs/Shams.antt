@@ -5,7 +5,7 @@ use mathlib.Core.List.{List, [], _∷_}
 use mathlib.Core.Bool.{true, false}
 use mathlib.Core.Option.{Option, none, some}
 use Prim.Native.Nat.{ℕ}
-use lib.ListN.{take}
+use lib.ListN.{length, take}
 use Rattle.lists.specs.Lists.{allBelow, anyBelow, every, any, keep, over, foldFrom, least, greatest}
 use Rattle.lists.specs.Answer.{done, refusal}
 use Rattle.lists.proofs.Bools.{not-both}
@@ -14,7 +14,6 @@ use Rattle.intervals.specs.Cover.{closest}
 use Rattle.naming.specs.Names.{insert, insertAll, risesFrom}
 use Rattle.locks.specs.declared.Mode.the-variants.{Reading, Writing}
 use Rattle.locks.specs.declared.Lock.{Lock}
-use Rattle.locks.specs.declared.Stage.{Stage}
 use Rattle.locks.specs.declared.Stage.the-variants.{Waiting, Holding}
 use Rattle.locks.specs.Stages.{isWaiting}
 use Rattle.locks.specs.Lent.{Hierarchy, lockFor}
@@ -23,11 +22,11 @@ use Rattle.sweeps.specs.Sweeps.{offer, sweep}
 use Rattle.grants.specs.Grants.{countGrants}
 use Rattle.desk.specs.declared.Desk.{Desk}
 use Rattle.desk.specs.Desks.{stageAt}
-use Rattle.desk.specs.Steps.{granted, waits, enterRefusal, enterUnless, enterStep, leaveRefusal, leaveUnless, leaveStep}
+use Rattle.desk.specs.Steps.{granted, waits, EnterResult, enterRefusal, enterUnless, enterStep, leaveRefusal, leaveUnless, leaveStep}
 use Rattle.runs.specs.Run.{Call, enter, get, put, add, leave, entered, left, State, afterEnter, listed, afterLeave, moveCall, Ran, alsoRan}
 use Rattle.fairness.specs.AnySteps.{AnyStep, runAny}
 use Rattle.fairness.specs.Ahead.{numbersBelow, ahead, hasLeft, allLeft}
-use Rattle.fairness.specs.Rules.{paperRules, newcomersPass, fromTheBack, onlyHolders, enterBy, leaveBy, moveBy, runBy, NobodyPassedOver}
+use Rattle.fairness.specs.Rules.{Rules, paperRules, newcomersPass, fromTheBack, onlyHolders, enterBy, leaveBy, moveBy, runBy, NobodyPassedOver}
 use Rattle.fairness.proofs.Fairness.{nobody-passed-over}
 use Rattle.fairness.proofs.Written.{lock, desk, one, whole, at, comes, goes}
 
@@ -66,9 +65,20 @@ paper-passes-nobody K d entries queue p mode names nameCount answered s same ste
     subst (λ (ran : Ran). allLeft (ahead d) (ran .events) ≡ true → hasLeft (ran .events) p ≡ false → stageAt (ran .state .desk) p ≡ Holding l) (sym (run-same steps s))
     (nobody-passed-over K d (record { entries = entries; queue = queue }) p mode names nameCount (ap (λ r. r .answer) (sym sames) ∙ answered) s (same ∙ ap (λ r. r .desk) sames) steps)
 
--- OTHERS DO, or where others are counted. Who waits does not hold
-waits-not : (x : Stage) (l : Lock) → isWaiting x ≡ true → x ≡ Holding l → ⊥
-waits-not x l e c = not-both (isWaiting x) e (ap isWaiting c)
+-- OTHERS DO, or where others are counted: the claim is false of rules by which a writer of one node begins to wait at some desk, and still waits behind steps in which all those have left who count
+-- as ahead, and its own party has not
+module _ (rules : Rules) (first : Desk → List ℕ) (d : Desk) (p : ℕ) (s : State) (steps : List AnyStep) where
+  abbrev began : EnterResult
+  began = enterBy rules (enterRefusal one d p (0 ∷ []) 1) d p (whole Writing)
+
+  abbrev ran : Ran
+  ran = runBy rules steps s
+
+  passes-over : length (d .entries) ≡ 32 → length (d .queue) ≡ 32 → lockFor one Writing (0 ∷ []) ≡ whole Writing → began .answer ≡ done waits → s .desk ≡ began .desk
+      → allLeft (first d) (ran .events) ≡ true → hasLeft (ran .events) p ≡ false → isWaiting (stageAt (ran .state .desk) p) ≡ true → NobodyPassedOver rules first → ⊥
+  passes-over entries queue asked answered same all stays still claim =
+      let held = claim one d entries queue p Writing (0 ∷ []) 1 (rw asked answered) s (rw asked same) steps all stays in
+      not-both (isWaiting (stageAt (ran .state .desk) p)) still (ap isWaiting held)
 
 -- NEWCOMERS PASS: 0 reads; 1 would write, and waits. 2 comes, reads, and is let in; 0 leaves, and 1 still waits
 abbrev reader : Desk
@@ -80,7 +90,7 @@ readerBehind = at (desk (Holding (whole Reading) ∷ Waiting (whole Writing) ∷
 abbrev readerSteps : List AnyStep
 readerSteps = comes one 2 Reading (0 ∷ []) ∷ goes one 0 32 ∷ []
 
--- so are writers: over two nodes below the root, 0 writes the one, and 1 would write both; 2 writes the other
+-- a newcomer that writes is let in, too: over two nodes below the root, 0 writes the one, and 1 would write both; 2 writes the other
 abbrev two : Hierarchy
 two = record { n = 3; intervals = 1 ∷ 2 ∷ 1 ∷ 1 ∷ 2 ∷ 2 ∷ []; edges = 0 ∷ 1 ∷ 0 ∷ 2 ∷ []; edgeCount = 2 }
 
@@ -96,9 +106,7 @@ newcomers-told = (refl, refl)
 pub newcomers-pass-over : NobodyPassedOver newcomersPass ahead → ⊥
 unfolding allBelow anyBelow every any keep over foldFrom least greatest refusal someEdge closest insert insertAll risesFrom soundParties offer sweep countGrants enterStep afterEnter listed afterLeave
     alsoRan numbersBelow moveBy runBy
-newcomers-pass-over claim =
-    waits-not (stageAt ((runBy newcomersPass readerSteps readerBehind) .state .desk) 1) (whole Writing) refl
-    (claim one reader refl refl 1 Writing (0 ∷ []) 1 refl readerBehind refl readerSteps refl refl)
+newcomers-pass-over = passes-over newcomersPass ahead reader 1 readerBehind readerSteps refl refl refl refl refl refl refl refl
 
 -- WAITERS FROM THE BACK: 0 writes; 1 would, and waits. 2 would, and waits behind it; 0 leaves: 2 is granted, and 1 still waits
 abbrev writer : Desk
@@ -123,9 +131,7 @@ back-told = (refl, refl)
 pub back-passes-over : NobodyPassedOver fromTheBack ahead → ⊥
 unfolding allBelow anyBelow every any keep over foldFrom least greatest refusal someEdge closest insert insertAll risesFrom soundParties offer sweep countGrants enterStep afterEnter listed afterLeave
     alsoRan numbersBelow moveBy runBy
-back-passes-over claim =
-    waits-not (stageAt ((runBy fromTheBack writerSteps (at writerBehind)) .state .desk) 1) (whole Writing) refl
-    (claim one writer refl refl 1 Writing (0 ∷ []) 1 refl (at writerBehind) refl writerSteps refl refl)
+back-passes-over = passes-over fromTheBack ahead writer 1 (at writerBehind) writerSteps refl refl refl refl refl refl refl refl
 
 -- BY THE PAPER'S RULES the same steps let 1 in, in both cases
 pub paper-told : ((runBy paperRules readerSteps readerBehind) .events ≡ entered 2 (done waits) ∷ left 0 (done (1 ∷ [])) ∷ [])
@@ -146,6 +152,4 @@ holders-told = (refl, refl)
 pub only-holders-pass-over : NobodyPassedOver paperRules onlyHolders → ⊥
 unfolding allBelow anyBelow every any keep over foldFrom least greatest refusal someEdge closest insert insertAll risesFrom soundParties offer sweep countGrants enterStep afterEnter listed afterLeave
     alsoRan numbersBelow moveBy runBy
-only-holders-pass-over claim =
-    waits-not (stageAt ((runBy paperRules (goes one 0 32 ∷ []) twoBehind) .state .desk) 2) (whole Writing) refl
-    (claim one writerBehind refl refl 2 Writing (0 ∷ []) 1 refl twoBehind refl (goes one 0 32 ∷ []) refl refl)
+only-holders-pass-over = passes-over paperRules onlyHolders writerBehind 2 twoBehind (goes one 0 32 ∷ []) refl refl refl refl refl refl refl refl

@@ -139,6 +139,11 @@ full = desk readers [] []
 abbrev fullBehind : Desk
 fullBehind = desk (readers ++ (Waiting (whole Writing) ∷ [])) (31 ∷ []) []
 
+-- the first and the last party are ahead as the others are
+pub ends-ahead : ahead (desk (Holding (whole Reading) ∷ replicate 30 Out ++ (Waiting (whole Writing) ∷ [])) (31 ∷ []) []) ≡ 0 ∷ 31 ∷ []
+unfolding keep numbersBelow
+ends-ahead = refl
+
 -- 30 of them leave: it still waits; with the last of them it holds. So no number below 31 would do
 pub thirty-one : ((enterStep one full 31 Writing (0 ∷ []) 1) .desk ≡ fullBehind) × (ahead full ≡ numbersBelow 31)
     × (stageAt ((runAny (map (λ party. goes one party 32) (numbersBelow 30)) (at fullBehind)) .state .desk) 31 ≡ Waiting (whole Writing))
