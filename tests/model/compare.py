@@ -6,12 +6,12 @@
 LISTING is the program. It prints the seed, how often each answer and each refusal was seen, and the first difference; it exits 1 where there is
 one, or where a kind of answer that the paper has was never seen, or a cover that was picked by its number from equally narrow records with
 different intervals, or one of the ways in which a party is granted, or a party that came and was never granted, or a listing with a line
-for each party, or one with none, or one of the cases of adding visits in ADDS or of names in NAMED, or a wrong kind or mode. --keep writes the file that
-differs into DIR.
+for each party, or one with none, or one of the cases of adding visits in ADDS, of names in NAMED or of value records in VALUED, or a wrong kind or mode,
+or one of the ways in MISVALUED in which value records are wrong. --keep writes the file that differs into DIR.
 Of each listing the line `end` and those behind it are also worked out from the answers before them.
 Files are valid, of the wrong length, damaged with and without a check that was made right again (in all blocks, or in some), misordered,
-of legal and illegal hierarchies, some with many intervals of one width, and now and then of 128 or 129 blocks; most steps take effect, since
-the generator follows the desk with the model and picks parties and records by it.
+of legal and illegal hierarchies, some with many intervals of one width, with value records and without, and now and then of 128 or 129 blocks; most
+steps take effect, since the generator follows the desk with the model and picks parties and records by it.
 """
 import argparse
 import collections
@@ -183,11 +183,63 @@ def steps(rnd, h, count):
     return out
 
 
+# ---- value records (02, point 9)
+
+def value(rnd, node):
+    """A value record of a record, with a number that is not 0."""
+    number = rnd.choice((1, 2**64 - 1, rnd.randrange(1, 1000), rnd.randrange(1, 2**64), 2**64 - 1 - rnd.randrange(1000), 1 << rnd.randrange(64)))
+    return record(model.VALUE, node, 0, 0, *number.to_bytes(8, "little"))
+
+
+def values(rnd, n):
+    """The value records of a file, right ones: in many files none, else of one record, of a few or of all, ascending."""
+    every = range(min(n, 256))
+    count = min(len(every), rnd.choice((0, 0, 0, 1, 2, 5, len(every) // 2, len(every), len(every))))
+    return [value(rnd, node) for node in sorted(rnd.sample(every, count))]
+
+
+MISVALUED = ["value 0", "a record's value twice", "values not ascending", "value of record n", "value of a record above n", "edge behind a value", "value behind a step",
+             "value before the size", "unused byte of a value", "value of a record below an n over 256"]
+
+
+def misvalued(rnd, records):
+    """What is wrong with a file's value records, and its bytes. Where it has none, it is given some."""
+    way, n = rnd.choice(MISVALUED), model.little(records[0][1:3])
+    of = {kind: [r for r in records if r[0] == kind] for kind in (model.SIZE, model.EDGE, model.VALUE)}
+    (size, *_), edges, given, steps = *of.values(), [r for r in records if r[0] in model.STEPS]
+    given = given or [value(rnd, node) for node in sorted(rnd.sample(range(256), rnd.choice((1, 2, 3, 5)))) if node < n] or [value(rnd, 0)]
+    at = rnd.randrange(len(given))
+    node = given[at][1]
+    if way == "value 0":
+        given[at] = record(model.VALUE, node)
+    elif way == "a record's value twice":
+        given.insert(at, rnd.choice((given[at], value(rnd, node))))
+    elif way == "values not ascending":
+        given.insert(at + 1, value(rnd, rnd.randrange(node + 1)))
+    elif way == "value of record n":
+        given.append(value(rnd, min(n, 255)))
+    elif way == "value of a record above n":
+        given.append(value(rnd, rnd.randrange(min(n, 255), 256)))
+    elif way == "edge behind a value":
+        given.insert(at + 1, edges.pop() if edges else record(model.EDGE, 0, 1))
+    elif way == "value behind a step":
+        steps.insert(rnd.randrange(len(steps) + 1), record(model.LEAVE, rnd.randrange(33)))
+        steps.insert(rnd.randrange(1, len(steps) + 1), given.pop())
+    elif way == "value before the size":
+        size, given[at] = given[at], size
+    elif way == "unused byte of a value":
+        byte = rnd.choice((2, 3, 12, 13, 14, 15))
+        given[at] = given[at][:byte] + bytes([1 << rnd.randrange(8)]) + given[at][byte + 1:]
+    else:
+        size, given = record(model.SIZE, n & 255, 1), [value(rnd, rnd.randrange(n & 255, 256))]
+    return way, blocks([size, *edges, *given, *steps])
+
+
 # ---- files
 
 def damaged(rnd, data, records):
     """What was done, and the bytes."""
-    kind, out = rnd.randrange(9), bytearray(data)
+    kind, out = rnd.randrange(11), bytearray(data)
 
     def block():
         return 512 * rnd.randrange(len(out) // 512)
@@ -213,16 +265,18 @@ def damaged(rnd, data, records):
             wrong[at] = wrong[at][:2] + bytes([rnd.choice((4, 4, 4, 0, 5, 7, 131, 255))]) + wrong[at][3:]
             return "wrong mode", blocks(wrong)
         at = rnd.randrange(len(wrong))
-        wrong[at] = bytes([rnd.choice((8, 8, 8, 0, 9, 15, 135, 255))]) + wrong[at][1:]
+        wrong[at] = bytes([rnd.choice((9, 9, 9, 0, 10, 24, 136, 255))]) + wrong[at][1:]
         return "wrong kind", blocks(wrong)
     if kind == 5:
         for _ in range(rnd.randrange(2, 5)):
             out[block() + rnd.randrange(508)] ^= 1 << rnd.randrange(8)
         return "damaged, some checks corrected", mended(out, lambda: rnd.random() < 0.6)
-    if kind == 6:
+    if kind in (6, 7):
+        return misvalued(rnd, records)
+    if kind == 8:
         out[block() + rnd.choice((0, 1, 2, 3, 4, 5, 6, 7, 504, 505, 506, 507))] = rnd.randrange(256)
     else:
-        out[block() + 8 + rnd.randrange(496)] = rnd.randrange(256) if rnd.random() < 0.5 else rnd.randrange(10)
+        out[block() + 8 + rnd.randrange(496)] = rnd.randrange(256) if rnd.random() < 0.5 else rnd.randrange(11)
     return "damaged, check corrected", mended(out)
 
 
@@ -239,9 +293,10 @@ def one(rnd):
     kind, count = "legal", rnd.choice((0, 1, 5, 20, 40, 80, 160))
     if rnd.random() < 0.12:
         kind, (n, edges) = "illegal hierarchy", spoiled(rnd, n, edges)
-    elif style < 0.014:
-        kind, count = "128 or 129 blocks", rnd.choice((3968, 3968, 3969)) - 1 - len(edges)
-    records = [record(1, n & 255, n >> 8), *(record(2, p, c) for p, c in edges)]
+    given = values(rnd, n)
+    if kind == "legal" and style < 0.014:
+        kind, count = "128 or 129 blocks", rnd.choice((3968, 3968, 3969)) - 1 - len(edges) - len(given)
+    records = [record(1, n & 255, n >> 8), *(record(2, p, c) for p, c in edges), *given]
     try:
         records += steps(rnd, model.Hierarchy(n, edges), count)
     except model.Refusal:
@@ -256,7 +311,7 @@ def tied(data, lines):
         return 0
     records, count = model.read_file(data), 0
     h = model.Hierarchy(int.from_bytes(records[0][1:3], "little"), [(r[1], r[2]) for r in records if r[0] == 2])
-    for r, line in zip((r for r in records if r[0] > 2), lines):
+    for r, line in zip((r for r in records if r[0] in model.STEPS), lines):
         if r[0] == 3 and line.split()[1] == "granted":
             c, names = int(line.split()[2]), r[4:4 + r[3]]
             low, high = min(h.low[x] for x in names), max(h.high[x] for x in names)
@@ -276,7 +331,7 @@ def told(data, lines):
     came, holding, waiting = set(), set(), set()
     if lines[0].startswith("refused"):
         return by_enter, by_leave, came, lines
-    for r, line in zip((r for r in model.read_file(data) if r[0] > 2), lines):
+    for r, line in zip((r for r in model.read_file(data) if r[0] in model.STEPS), lines):
         answer, *rest = line.split()[1:]
         if answer == "granted":
             by_enter[r[1]] += 1
@@ -395,6 +450,34 @@ def named(data, lines):
     return times
 
 
+GIVEN = {"value": "got as given", "stored": "replaced", "added": "added to"}
+EACH, NO_STEP, TWO_BLOCKS, FULL = "of all 256 records", "and no step", "in two blocks or more", "in 128 blocks"
+VALUED = [*GIVEN.values(), EACH, NO_STEP, TWO_BLOCKS, FULL]
+
+
+def valued(data, lines):
+    """How often each of these (02, point 9) is in a file: what is done first to a value given by a value record, and where the value records are."""
+    times = collections.Counter()
+    if lines[0].startswith("refused"):
+        return times
+    records = model.read_file(data)
+    places = [k for k, r in enumerate(records) if r[0] == model.VALUE]
+    given = {records[k][1]: model.little(records[k][4:12]) for k in places}
+    times[EACH] += len(places) == 256
+    times[NO_STEP] += given != {} and places[-1] == len(records) - 1
+    times[TWO_BLOCKS] += given != {} and places[0] // 31 != places[-1] // 31
+    times[FULL] += given != {} and len(data) == 65536
+    for r, line in zip((r for r in records if r[0] in model.STEPS), lines):
+        answer = line.split()[1:]
+        if r[2] in given and answer[0] in GIVEN:
+            if answer[0] == "value" and int(answer[1]) != given[r[2]]:
+                raise SystemExit(f"another value than the file gives: {line}")
+            times[GIVEN[answer[0]]] += 1
+            if answer[0] != "value":
+                del given[r[2]]
+    return times
+
+
 def word(line):
     w = line.split()
     return " ".join(w) if w[0] == "refused" else w[0] if w[0] in ("end", "party") else " ".join(w[1:3]) if w[1] == "refused" else w[1]
@@ -425,7 +508,7 @@ def main():
         print(f"no such program: {args.listing}")
         return 1
     rnd = random.Random(args.seed)
-    seen, kinds, who, added, names = (collections.Counter() for _ in range(5))
+    seen, kinds, who, added, names, start = (collections.Counter() for _ in range(6))
     one_freed = more_freed = ties = many = none = 0
     for k in range(args.files):
         kind, data = one(rnd)
@@ -445,11 +528,12 @@ def main():
                 with open(os.path.join(args.keep, f"differs-{args.seed}-{k}.blocks"), "wb") as f:
                     f.write(data)
             return 1
-        kinds[kind] += 1
+        kinds[kind] += kind not in MISVALUED or lines == ["refused 5" if kind == MISVALUED[-1] else "refused 4"]
         ties += tied(data, lines)
         who += parties(by_enter, by_leave, came)
         added += adds(data, lines)
         names += named(data, lines)
+        start += valued(data, lines)
         many += len(end) == 33
         none += end[-1].startswith("end")
         for line in lines:
@@ -464,9 +548,10 @@ def main():
     print("parties granted " + ", ".join(f"{w}: {who[w]}" for w in PARTIES) + f"; listings with a line for each party {many}, for none {none}")
     print("adding: " + ", ".join(f"{w}: {added[w]}" for w in ADDS))
     print("names: " + ", ".join(f"{w}: {names[w]}" for w in NAMED))
+    print("value records: " + ", ".join(f"{w}: {start[w]}" for w in VALUED))
     missing = [w for w in WANTED if not seen[w]] + [f"a party granted {w}" for w in PARTIES if not who[w]]
-    missing += [w for w in ADDS if not added[w]] + [w for w in NAMED if not names[w]]
-    missing += [f"a file with a {w}" for w in ("wrong kind", "wrong mode") if not kinds[w]]
+    missing += [w for w in ADDS if not added[w]] + [w for w in NAMED if not names[w]] + [f"value records {w}" for w in VALUED if not start[w]]
+    missing += [f"a file with this wrong: {w}" for w in ("wrong kind", "wrong mode", *MISVALUED) if not kinds[w]]
     missing += [w for w, n in (("a leave that grants one", one_freed), ("a leave that grants several", more_freed), ("a cover picked by number from records of different intervals", ties),
                                ("a listing with a line for each party", many), ("a listing with `end` last", none)) if not n]
     if missing:

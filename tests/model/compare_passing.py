@@ -179,7 +179,7 @@ def checked(data, lines):
     """The follower at the end of a file's listing."""
     records = model.read_file(data)
     n, parents = model.little(records[0][1:3]), {r[1] for r in records if r[0] == model.EDGE}
-    return followed(Follower(n, n - len(parents)), [r for r in records if r[0] > model.EDGE], lines)
+    return followed(Follower(n, n - len(parents)), [r for r in records if r[0] in model.STEPS], lines)
 
 
 # ---- the files
@@ -243,11 +243,11 @@ def traffic(rnd, n, count):
 
 
 def one(rnd):
-    """The kind of a file, and its bytes."""
+    """The kind of a file, and its bytes. Many have value records, which are no steps."""
     kind = rnd.choice([*KINDS])
     n, edges = hierarchy(rnd, kind)
     steps = traffic(rnd, n, rnd.choice((20, 60, 150, 150, 300)))
-    return kind, compare.blocks([record(1, n & 255, n >> 8), *(record(2, p, c) for p, c in edges), *steps])
+    return kind, compare.blocks([record(1, n & 255, n >> 8), *(record(2, p, c) for p, c in edges), *compare.values(rnd, n), *steps])
 
 
 # ---- the check is tried itself

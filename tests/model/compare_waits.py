@@ -7,7 +7,7 @@ WAITS is the program. It prints the seed, how many waits there were in each kind
 exits 1 where there is one, where a kind of file that can have them had no wait, or no needless one, where there was a needless wait in a tree with visits
 of one name each, or where no adder waited needlessly, or needfully, or needlessly though its reach meets that of an adder who was there.
 --keep writes the file that differs into DIR.
-Parties mostly come and go, so that many wait. Some files are damaged, and some hierarchies illegal, as in compare.py.
+Parties mostly come and go, so that many wait. Many files have value records; some files are damaged, and some hierarchies illegal, as in compare.py.
 Of each hierarchy the intervals are also worked out as point 2 of document 02 has it: from sets with a bit for each record.
 """
 import argparse
@@ -137,12 +137,13 @@ def one(rnd):
         raise SystemExit(f"another reach or interval by sets than by the model: n = {n}, edges {edges}")
     tree, several = len(edges) == n - 1, rnd.random() < 0.5
     kind = TREE if tree and not several else BIG if big else NAMES if tree else CYCLES if cyclic(h) else SHARED
-    steps = crowd(rnd, h, 3967 - len(edges) if big else rnd.choice((5, 20, 60, 150)), several)
+    values = compare.values(rnd, n)
+    steps = crowd(rnd, h, 3967 - len(edges) - len(values) if big else rnd.choice((5, 20, 60, 150)), several)
     wrong = rnd.random() < 0.08
     spoiled = wrong and rnd.random() < 0.4
     if spoiled:
         n, edges = compare.spoiled(rnd, n, edges)
-    records = [record(1, n & 255, n >> 8), *(record(2, p, c) for p, c in edges), *steps]
+    records = [record(1, n & 255, n >> 8), *(record(2, p, c) for p, c in edges), *values, *steps]
     data = compare.blocks(records[:3968])
     if wrong and not spoiled:
         data = compare.damaged(rnd, data, records)[1]

@@ -1,11 +1,13 @@
 #!/usr/bin/env python3
-"""A plain model of the record desk, written from the papers (document 01, and points 1, 2, 4, 5 and 6 of 02), to compare the programs with.
+"""A plain model of the record desk, written from the papers (document 01, and points 1, 2, 4, 5, 6 and 9 of 02), to compare the programs with.
 
 It shares no code with the project: sets for reach, Python integers for values, a list of parties for the arrival order.
-`listing(data)` gives the lines that the program `listing` must print for the bytes of one file, `waits(data)` the one line of the program `waits`.
+`listing(data)` gives the lines that the program `listing` must print for the bytes of one file, `waits(data)` the one line of the program `waits`, and
+`cut(data, k)` the bytes of the shorter file that the program `cut` must write, or the number of the refusal.
 
     model.py FILE            prints the listing
     model.py --waits FILE    prints the report: all waits and needless ones
+    model.py --cut K FILE    writes the shorter file, or `refused` and its number to standard error
 """
 import sys
 
@@ -38,7 +40,8 @@ def check_wrong(block):
     return check(block[:508]) != little(block[508:512])
 
 
-SIZE, EDGE, ENTER, GET, PUT, LEAVE, ADD = 1, 2, 3, 4, 5, 6, 7
+SIZE, EDGE, ENTER, GET, PUT, LEAVE, ADD, VALUE = 1, 2, 3, 4, 5, 6, 7, 8
+STEPS = {ENTER, GET, PUT, LEAVE, ADD}
 READING, WRITING, ADDING = 1, 2, 3
 # the modes of two visits that do not conflict: two readers, and (02, point 5) two adders
 TOGETHER = {(READING, READING), (ADDING, ADDING)}
@@ -50,6 +53,7 @@ FIELDS = {
     PUT: {1, 2, 4, 5, 6, 7, 8, 9, 10, 11},
     LEAVE: {1},
     ADD: {1, 2, 4, 5, 6, 7, 8, 9, 10, 11},
+    VALUE: {1, 4, 5, 6, 7, 8, 9, 10, 11},
 }
 
 
@@ -70,12 +74,24 @@ def record_wrong(r):
 
 
 def order_wrong(kinds_before, kind):
-    """One size record comes first, then all edges, then steps."""
+    """One size record comes first, then all edges, then (02, point 9) values, then steps."""
     if not kinds_before:
         return kind != SIZE
     if kind == SIZE:
         return True
-    return kind == EDGE and kinds_before[-1] > EDGE
+    if kind == EDGE:
+        return kinds_before[-1] > EDGE
+    return kind == VALUE and kinds_before[-1] in STEPS
+
+
+def value_wrong(before, r):
+    """02, point 9: value records stand ascending, each record once, below n and never zero. n is what the size record says, be it legal or not."""
+    n, last = little(before[0][1:3]), before[-1]
+    if r[1] >= n:
+        return True
+    if little(r[4:12]) == 0:
+        return True
+    return last[0] == VALUE and last[1] >= r[1]
 
 
 def read_file(data):
@@ -104,6 +120,8 @@ def read_file(data):
             if record_wrong(r):
                 raise Refusal(4)
             if order_wrong(kinds, r[0]):
+                raise Refusal(4)
+            if r[0] == VALUE and value_wrong(records, r):
                 raise Refusal(4)
             kinds.append(r[0])
             records.append(r)
@@ -304,11 +322,14 @@ def perform(desk, r):
 # ---- the listing and the report
 
 def opened(data):
-    """A fresh desk over the hierarchy of a file, and the file's steps."""
+    """A fresh desk over the hierarchy of a file, with the file's values (02, point 9), and the file's steps."""
     records = read_file(data)
     n = little(records[0][1:3])
     desk = Desk(Hierarchy(n, [(r[1], r[2]) for r in records if r[0] == EDGE]))
-    return desk, [r for r in records if r[0] > EDGE]
+    for r in records:
+        if r[0] == VALUE:
+            desk.values[r[1]] = little(r[4:12])
+    return desk, [r for r in records if r[0] in STEPS]
 
 
 def listing(data):
@@ -365,9 +386,54 @@ def waits(data):
     return [f"{report.waits} {report.needless}"]
 
 
-if __name__ == "__main__":
-    words = sys.argv[1:]
-    if len(words) != 1 + (words[:1] == ["--waits"]):
+# ---- shorter files
+
+def written(records):
+    """The block file of these records: 31 in each block but the last."""
+    out = b""
+    for i in range(0, len(records), 31):
+        part = records[i:i + 31]
+        block = (i // 31).to_bytes(4, "little") + len(part).to_bytes(2, "little") + bytes(2) + b"".join(part)
+        block += bytes(508 - len(block))
+        out += block + check(block).to_bytes(4, "little")
+    return out
+
+
+def cut(data, k):
+    """02, point 9: the same size and edges, a value record for each nonzero value after the first k steps, by ascending record, then the steps after k. Where
+    that is refused, the number: 2 to 9 for the file or its hierarchy, 19 for k above the number of steps, 20 for a party holding or waiting then."""
+    try:
+        desk, steps = opened(data)
+    except Refusal as e:
+        return e.number
+    if k > len(steps):
+        return 19
+    for r in steps[:k]:
+        try:
+            perform(desk, r)
+        except Refusal:
+            pass
+    if desk.holds or desk.calls:
+        return 20
+    head = [r for r in read_file(data) if r[0] in (SIZE, EDGE)]
+    values = [bytes([VALUE, x, 0, 0]) + v.to_bytes(8, "little") + bytes(4) for x, v in enumerate(desk.values) if v]
+    return written(head + values + steps[k:])
+
+
+def main(words):
+    if words[:1] == ["--cut"] and len(words) == 3 and words[1].isdecimal() and words[1].isascii():
+        with open(words[2], "rb") as file:
+            shorter = cut(file.read(), int(words[1]))
+        if isinstance(shorter, int):
+            sys.stderr.write(f"refused {shorter}\n")
+        else:
+            sys.stdout.buffer.write(shorter)
+    elif len(words) == 1 + (words[:1] == ["--waits"]):
+        with open(words[-1], "rb") as file:
+            print("\n".join((waits if len(words) == 2 else listing)(file.read())))
+    else:
         sys.exit(__doc__)
-    with open(words[-1], "rb") as file:
-        print("\n".join((waits if len(words) == 2 else listing)(file.read())))
+
+
+if __name__ == "__main__":
+    main(sys.argv[1:])

@@ -1,17 +1,18 @@
 #!/usr/bin/env python3
-"""Tries the conformance files on wrong listing and report programs: the model with one line changed, for each change in changes.txt.
+"""Tries the conformance files on wrong listing, report and cut programs: the model with one line changed, for each change in changes.txt.
 
     run.py              prints what is amiss, then how many changes there are and what became of them
     run.py --verbose    a line for each change too: what became of it, and by which file
 
-A change is killed where the changed model gives another listing than the file's own, NAME.listing, or behind the line 'program: waits' another report,
-NAME.waits. It must be killed, unless changes.txt says that it is equivalent, and then it must not be. Exit status 0: that is so for all of them.
+A change is killed where the changed model gives another listing than the file's own, NAME.listing; behind the line 'program: waits' another report,
+NAME.waits; behind the line 'program: cut' another shorter file, or refusal, than a line of NAME.cuts has, or another than itself for a file cut at 0.
+It must be killed, unless changes.txt says that it is equivalent, and then it must not be. Exit status 0: that is so for all of them.
 
 changes.txt has a section '[NAME]' for a function, a method (CLASS.NAME) or an assignment of the model, and in it a line for each change:
 
     OLD  =>  NEW              OLD stands once in the section, within a line
     2/3 OLD  =>  NEW          OLD stands three times in it, and the second is meant
-        equivalent: WHY       behind a change that alters no listing, or no report
+        equivalent: WHY       behind a change that alters no listing, no report, or no cut
 
 Lines that start with '#' are comments.
 """
@@ -24,7 +25,7 @@ import sys
 HERE = os.path.dirname(os.path.abspath(__file__))
 MODEL = os.path.join(HERE, "..", "model", "model.py")
 FILES = os.path.join(HERE, "..", "..", "conformance")
-PROGRAMS = ("listing", "waits")  # functions of the model, and ends of the files' names
+PROGRAMS = ("listing", "waits", "cut")  # functions of the model; the first two are ends of the files' names too
 LIMIT = 10  # seconds of processor time for a file; the model needs less than a quarter of one for the longest; with an equivalent change it took over 1.5 once
 
 
@@ -88,9 +89,41 @@ def changed(source, places, change):
     return "\n".join(lines)
 
 
-def load(source, name, program):
+# What is slow to find, and the same in all models in which neither was changed: checks of blocks, and hierarchies (or the number with which one is refused).
+CHECKS, HIERARCHIES = {}, {}
+
+
+def keep(space, section):
+    """Has a model look up checks and hierarchies where they were found before, unless that is the part of it that was changed."""
+    check, hierarchy, refusal = space["check"], space["Hierarchy"], space["Refusal"]
+
+    def kept_check(data):
+        if data not in CHECKS:
+            CHECKS[data] = check(data)
+        return CHECKS[data]
+
+    def kept_hierarchy(n, edges):
+        key = n, tuple(edges)
+        if key not in HIERARCHIES:
+            try:
+                HIERARCHIES[key] = hierarchy(n, edges)
+            except refusal as e:
+                HIERARCHIES[key] = e.number
+        if isinstance(HIERARCHIES[key], int):
+            raise refusal(HIERARCHIES[key])
+        return HIERARCHIES[key]
+
+    if section != "check":
+        space["check"] = kept_check
+    if not section.startswith("Hierarchy."):
+        space["Hierarchy"] = kept_hierarchy
+
+
+def load(source, name, program, section):
+    """The program of a model in which this section was changed."""
     space = {"__name__": name}
     exec(compile(source, name, "exec"), space)
+    keep(space, section)
     return space[program]
 
 
@@ -98,11 +131,11 @@ def over(*_):
     raise TooLong
 
 
-def run(program, data):
-    """The lines; 'crash' or 'endless' where there are none."""
+def run(program, given):
+    """The lines, or what a cut gives; 'crash' or 'endless' where there are none."""
     signal.setitimer(signal.ITIMER_VIRTUAL, LIMIT)
     try:
-        return program(data)
+        return program(*given)
     except TooLong:
         return "endless"
     except Exception:
@@ -111,35 +144,51 @@ def run(program, data):
         signal.setitimer(signal.ITIMER_VIRTUAL, 0)
 
 
-def fate(source, program, files):
+def fate(source, program, files, section):
     """How the changed model was found out, 'differs', 'crash' or 'endless', and by which file; 'survives' where it was not.
     A crash counts only where no file has it print something else. A short file that finds one out is tried first on the next."""
     try:
-        changed_one = load(source, "changed", program)
+        changed_one = load(source, "changed", program, section)
     except Exception as e:
         raise Wrong(f"is no program: {e}") from None
     crash = None
-    for at, (name, data, want) in enumerate(files):
-        got = run(changed_one, data)
+    for at, (name, given, want) in enumerate(files):
+        got = run(changed_one, given)
         if got == "crash":
             crash = crash or ("crash", name)
         elif got != want:
-            if len(data) <= 2048:
+            if len(given[0]) <= 2048:
                 files.insert(0, files.pop(at))
             return ("endless" if got == "endless" else "differs", name)
     return crash or ("survives", None)
 
 
+def content(name):
+    with open(os.path.join(FILES, name), "rb") as f:
+        return f.read()
+
+
 def read_files(program):
-    """Each file with what the program must print. Those come first that find out most changes: short ones, and of them those whose report has a wait."""
-    files = []
-    for entry in os.listdir(FILES):
-        if entry.endswith(".blocks"):
-            with open(os.path.join(FILES, entry), "rb") as f:
-                data = f.read()
-            with open(os.path.join(FILES, f"{entry[:-7]}.{program}"), encoding="utf-8") as f:
-                files.append((entry[:-7], data, f.read().split("\n")[:-1]))
-    return sorted(files, key=lambda case: (len(case[1]) > 2048, case[2] == ["0 0"], len(case[1]), case[0]))
+    """Each file, as (name, what the program is given, what it must print). Those come first that find out most changes: short ones, and of them those whose report
+    has a wait."""
+    names = [entry[:-7] for entry in os.listdir(FILES) if entry.endswith(".blocks")]
+    if program == "cut":
+        return read_cuts(names)
+    files = [(name, (content(name + ".blocks"),), content(f"{name}.{program}").decode().split("\n")[:-1]) for name in names]
+    return sorted(files, key=lambda case: (len(case[1][0]) > 2048, case[2] == ["0 0"], len(case[1][0]), case[0]))
+
+
+def read_cuts(names):
+    """The same of the cuts: each line of each NAME.cuts, then each file at 0."""
+    data, cuts = {name: content(name + ".blocks") for name in names}, []
+    for name in names:
+        lines = content(name + ".cuts").decode().splitlines() if os.path.exists(os.path.join(FILES, name + ".cuts")) else []
+        first = content(name + ".listing").split()[:2]
+        lines.append(f"0 refused {first[1].decode()}" if first[0] == b"refused" else f"0 {name}")
+        for line in lines:
+            k, result, *number = line.split()
+            cuts.append((f"{name} at {k}", (data[name], int(k)), int(number[0]) if number else data[result]))
+    return sorted(cuts, key=lambda case: (len(case[1][0]) > 2048, case[1][1] == 0, len(case[1][0]), case[0]))
 
 
 def main(words):
@@ -152,7 +201,7 @@ def main(words):
     files, places, seen = {program: read_files(program) for program in PROGRAMS}, sections(source), set()
     tree = ast.dump(ast.parse(source))
     for program in PROGRAMS:
-        right = fate(source, program, files[program])
+        right = fate(source, program, files[program], "")
         if right[0] != "survives":
             print(f"mutants: the model itself has another {program} than {right[1]}")
             return 1
@@ -162,7 +211,7 @@ def main(words):
         at, section, _, _, old, new, why, program = change
         try:
             text = changed(source, places, change)
-            how, name = fate(text, program, files[program])
+            how, name = fate(text, program, files[program], section)
             if how == "survives" and ast.dump(ast.parse(text)) == tree:
                 raise Wrong("changes nothing")
             if (program, text) in seen:
@@ -179,8 +228,9 @@ def main(words):
             print(f"mutants: changes.txt, line {at}: {e}: [{section}] {old}  =>  {new}")
             count["wrong"] += 1
     killed = count["differs"] + count["crash"] + count["endless"]
-    reports = sum(change[7] == "waits" for change in changes)
-    print(f"mutants: {len(changes)} changes, {reports} of them of the report, {len(files[PROGRAMS[0]])} files: {killed} killed ({count['crash']} of them only by a crash, "
+    of = {program: sum(change[7] == program for change in changes) for program in PROGRAMS}
+    print(f"mutants: {len(changes)} changes, {of['waits']} of them of the report and {of['cut']} of the cut, {len(files[PROGRAMS[0]])} files and {len(files['cut'])} cuts: "
+          f"{killed} killed ({count['crash']} of them only by a crash, "
           f"{count['endless']} did not end), {count['equivalent']} equivalent, {count['wrong']} amiss")
     return 1 if count["wrong"] or not changes else 0
 

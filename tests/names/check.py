@@ -168,7 +168,7 @@ for name in sorted(glob.glob("crates/**/*.antt", recursive=True) + glob.glob("cr
                     kit.update(mixfix(one.strip()))
                     kit.add(one.strip())
             kit.update(path.split("."))
-    kit.update(re.findall(r"\b(?:io|bytes|libc)::(\w+)", re.sub(r"//[^\n]*", "", text)))
+    kit.update(re.findall(r"\b(?:io|os|bytes|libc)::(\w+)", re.sub(r"//[^\n]*", "", text)))
 edits = {os.path.basename(f)[:-5] for f in glob.glob("crates/*/must-fail/*.edit")}
 cases = {os.path.basename(f)[:-7] for f in glob.glob("conformance/*.blocks")}
 given = {os.path.basename(f) for f in glob.glob("crates/*/*") if os.path.isfile(f)}  # stdin, stdout
@@ -183,12 +183,19 @@ for d in files.values():
     for owner, names in d.members.items():
         members.setdefault(owner, set()).update(names)
 words = {w for group in WORDS.values() for w in group.split()}
+
+
+def lines(name):
+    """Of a file that a program reads or writes, which may be a block file."""
+    with open(name, "rb") as stream:
+        return stream.read().decode("utf-8", "replace").split("\n")
+
+
 printed = set()
 for f in glob.glob("crates/*/stdout") + glob.glob("crates/*/stdin") + glob.glob("conformance/*.listing"):
-    with open(f, "rb") as stream:
-        printed.update(stream.read().decode("utf-8", "replace").split("\n"))
+    printed.update(lines(f))
 printed = "\n".join(sorted(printed))
-told = sorted({line for f in glob.glob("crates/*/stdout") for line in read(f).split("\n") if line and not line.startswith("#")})
+told = sorted({line for f in glob.glob("crates/*/stdout") for line in lines(f) if line and not line.startswith("#")})
 openings = {w for line in told for w in re.findall(r"(?:^|; )([a-zA-Z]+)\b", line)} | {".."}
 told = "\n".join(told)
 functions = {(f.split("/")[1], name) for f, d in files.items() if re.fullmatch(r"crates/\w+/src/lib\.rt", f) for name in d.public}

@@ -4,13 +4,14 @@ use mathlib.Core.Bool.{Bool, true, _||_}
 use mathlib.Core.List.{List, [], _∷_, _++_, append-assoc}
 use Prim.Native.Nat.{ℕ, _+_, _*_, _-_, _/_, _^_, _<_, _≤_}
 use native.Mathlib.Omega.{arith}
-use borrow.Author.Tests.{eq-eqb, le-leb, lt-leb}
+use borrow.Author.Tests.{eq-eqb, le-leb}
 use lib.Dec.{eqb}
 use lib.ListN.{length, take, drop, replicate, length-drop, length-take, take-append-drop}
 use lib.Seq.{take-take, drop-drop, length-take-le, take-at, drop-at}
 use Rattle.lists.specs.Lists.{every, Below}
 use Rattle.octets.specs.Fletcher.{fletcher}
 use Rattle.octets.specs.Bytes.{number4, bytes2, bytes4, zeroFrom}
+use Rattle.blocks.specs.declared.ReadStage.{ReadStage}
 use Rattle.blocks.specs.Block.{afterRecords, countIn, checkIn, countRight, headRight, afterBlock, recordsIn, blockBody, blockOf}
 use Rattle.blocks.proofs.Stages.{Head, Good}
 use Rattle.blocks.proofs.Making.{length-body}
@@ -63,9 +64,9 @@ body-is number last (x0 ∷ x1 ∷ x2 ∷ x3 ∷ x4 ∷ x5 ∷ []) l h d = absur
 body-is number last (x0 ∷ x1 ∷ x2 ∷ x3 ∷ x4 ∷ x5 ∷ x6 ∷ []) l h d = absurd (omega arith)
 
 -- a block that reading took is the block of its number and records
-pub block-is : (number : ℕ) (last : Bool) (stage : ℕ) (b : List ℕ) → length b ≡ 512 → Below 256 b → Good number last stage b → blockOf number (recordsIn b) ≡ b
+pub block-is : (number : ℕ) (last : Bool) (t : ReadStage) (b : List ℕ) → length b ≡ 512 → Below 256 b → Good number last t b → blockOf number (recordsIn b) ≡ b
 unfolding blockOf
-block-is number last stage b l h g =
+block-is number last t b l h g =
     let len : length (drop 508 b) ≡ 4 = simp length-drop (omega arith) in
     ap (λ (t : List ℕ). t ++ bytes4 (fletcher t)) (body-is number last b l h (g .head))
     ∙ ap (λ (k : ℕ). take 508 b ++ bytes4 k) (sym (g .check) ∙ sym (number4-drop b))
@@ -78,12 +79,11 @@ unfolding headRight countRight
 head-back number last b d =
     simp (eq-eqb _ _ (d .is), le-leb _ _ (d .low), le-leb _ _ (d .high), d .full, eq-eqb _ _ (d .gap), d .zeros)
 
-block-back : (number : ℕ) (last : Bool) (stage : ℕ) (b : List ℕ) → stage ≤ 2 → checkIn b ≡ fletcher (take 508 b) → Head number last b
-    → afterBlock number last stage b ≡ afterRecords stage (countIn b) (drop 8 b)
+block-back : (number : ℕ) (last : Bool) (t : ReadStage) (b : List ℕ) → t .wrong ≡ 0 → checkIn b ≡ fletcher (take 508 b) → Head number last b
+    → afterBlock number last t b ≡ afterRecords t (countIn b) (drop 8 b)
 unfolding afterBlock
-block-back number last stage b small check d =
-    let few : stage < 3 = omega arith in
-    simp (lt-leb 3 stage few, eq-eqb _ _ check, head-back number last b d)
+block-back number last t b small check d =
+    simp (small, eq-eqb _ _ check, head-back number last b d)
 
 module _ (number : ℕ) (c : List ℕ) (m : ℕ) (len : length c ≡ 16 * m) (most : m ≤ 31) where
   few : length c ≤ 496
@@ -129,13 +129,13 @@ module _ (number : ℕ) (c : List ℕ) (m : ℕ) (len : length c ≡ 16 * m) (mo
   }
 
   -- the block of m records, read, gives the stage after them
-  pub block-reads : (last : Bool) (stage : ℕ) → number < 2 ^ 32 → 1 ≤ m → (last || eqb m 31) ≡ true → stage ≤ 2
-      → afterBlock number last stage (blockOf number c) ≡ afterRecords stage m c
-  block-reads last stage fits some full small =
-      block-back number last stage (blockOf number c) small check-block (head-block last fits some full)
-      ∙ ap (λ (n : ℕ). afterRecords stage n (drop 8 (blockOf number c))) count-block
-      ∙ ap (λ (t : List ℕ). afterRecords stage m t) rest-block
-      ∙ records-prefix m stage c (replicate (500 - length c) 0 ++ bytes4 (fletcher (blockBody number c))) len
+  pub block-reads : (last : Bool) (t : ReadStage) → number < 2 ^ 32 → 1 ≤ m → (last || eqb m 31) ≡ true → t .wrong ≡ 0
+      → afterBlock number last t (blockOf number c) ≡ afterRecords t m c
+  block-reads last t fits some full small =
+      block-back number last t (blockOf number c) small check-block (head-block last fits some full)
+      ∙ ap (λ (n : ℕ). afterRecords t n (drop 8 (blockOf number c))) count-block
+      ∙ ap (λ (d : List ℕ). afterRecords t m d) rest-block
+      ∙ records-prefix m t c (replicate (500 - length c) 0 ++ bytes4 (fletcher (blockBody number c))) len
 
   -- and its records
   pub records-block : recordsIn (blockOf number c) ≡ c

@@ -1,21 +1,23 @@
 -- What the round trips rest on: runs of zeros, stages over records, numbers in bytes, the size of the check. Assumes nothing.
 use mathlib.Core.Path.{_≡_, refl, sym, ap, _∙_}
-use mathlib.Core.Bool.{Bool, true, false, cond, _&&_, and-false}
+use mathlib.Core.Logic.{_≢_}
+use mathlib.Core.Bool.{true}
 use mathlib.Core.List.{List, [], _∷_, _++_}
 use Prim.Native.Nat.{ℕ, zero, suc, _+_, _*_, _/_, _%_, _^_, _<_, _≤_}
 use native.Mathlib.Nat.{zero-add, suc-add, add-mul-mod-self-left, mod-eq-of-lt}
 use native.Mathlib.Omega.{arith}
-use borrow.Author.Tests.{eqb-true, lt-leb}
-use lib.Dec.{eqb, leb}
+use borrow.Author.Tests.{eqb-true, eqb-false}
+use lib.Dec.{eqb}
 use lib.ListN.{length, take, drop, replicate, length-drop, take-append-drop}
 use lib.Seq.{take-append-le, drop-append-le, getD-drop, length-take-le}
 use Rattle.lists.specs.Lists.{every, Below}
-use Rattle.lists.proofs.Bools.{and-left, and-right}
+use Rattle.lists.proofs.Bools.{bool, and-left, and-right}
 use Rattle.octets.specs.Fletcher.{words, sums, fletcher}
 use Rattle.octets.specs.Bytes.{number4, bytes2, bytes4}
-use Rattle.blocks.specs.Record.{kindOf, between, Place, rowOf, recordRight, inOrder}
+use Rattle.blocks.specs.declared.ReadStage.{ReadStage}
+use Rattle.blocks.specs.Record.{begun}
 use Rattle.blocks.specs.Block.{afterRecord, afterRecords}
-use Rattle.blocks.proofs.Rows.{by-place}
+use Rattle.blocks.proofs.Rows.{after-stays}
 
 -- ZEROS. A run of zero bytes is so many zeros, and the other way round
 pub zeros-are : (s : List ℕ) → every (eqb 0) s ≡ true → s ≡ replicate (length s) 0
@@ -32,60 +34,46 @@ zeros-pass zero = refl
 zeros-pass (suc n) = zeros-pass n
 
 -- RECORDS. The stage after n records reads no byte past them
-pub records-prefix : (n stage : ℕ) (c t : List ℕ) → length c ≡ 16 * n → afterRecords stage n (c ++ t) ≡ afterRecords stage n c
+pub records-prefix : (n : ℕ) (t : ReadStage) (c d : List ℕ) → length c ≡ 16 * n → afterRecords t n (c ++ d) ≡ afterRecords t n c
 unfolding afterRecords
-records-prefix zero stage c t h = refl
-records-prefix (suc n) stage c t h =
+records-prefix zero t c d h = refl
+records-prefix (suc n) t c d h =
     let room : 16 ≤ length c = omega arith in
     let less : length (drop 16 c) ≡ 16 * n = simp length-drop (omega arith) in
-    ap (λ (l : List ℕ). afterRecords (afterRecord stage l) n (drop 16 (c ++ t))) (take-append-le 16 c t room)
-    ∙ ap (λ (l : List ℕ). afterRecords (afterRecord stage (take 16 c)) n l) (drop-append-le 16 c t room)
-    ∙ records-prefix n (afterRecord stage (take 16 c)) (drop 16 c) t less
+    ap (λ (l : List ℕ). afterRecords (afterRecord t l) n (drop 16 (c ++ d))) (take-append-le 16 c d room)
+    ∙ ap (λ (l : List ℕ). afterRecords (afterRecord t (take 16 c)) n l) (drop-append-le 16 c d room)
+    ∙ records-prefix n (afterRecord t (take 16 c)) (drop 16 c) d less
 
-pub records-front : (n : ℕ) (r : List ℕ) → 16 * n ≤ length r → afterRecords 0 n (take (16 * n) r) ≡ afterRecords 0 n r
+pub records-front : (n : ℕ) (r : List ℕ) → 16 * n ≤ length r → afterRecords begun n (take (16 * n) r) ≡ afterRecords begun n r
 records-front n r h =
-    sym (records-prefix n 0 (take (16 * n) r) (drop (16 * n) r) (length-take-le (16 * n) r h))
-    ∙ ap (λ (t : List ℕ). afterRecords 0 n t) (take-append-drop (16 * n) r)
+    sym (records-prefix n begun (take (16 * n) r) (drop (16 * n) r) (length-take-le (16 * n) r h))
+    ∙ ap (λ (t : List ℕ). afterRecords begun n t) (take-append-drop (16 * n) r)
 
 -- more records go on from the stage of the first
-pub records-append : (n m stage : ℕ) (c t : List ℕ) → length c ≡ 16 * n → afterRecords stage (n + m) (c ++ t) ≡ afterRecords (afterRecords stage n c) m t
+pub records-append : (n m : ℕ) (t : ReadStage) (c d : List ℕ) → length c ≡ 16 * n → afterRecords t (n + m) (c ++ d) ≡ afterRecords (afterRecords t n c) m d
 unfolding afterRecords
-records-append zero m stage [] t h = rw zero-add
-records-append zero m stage (x ∷ c) t h = absurd (omega arith)
-records-append (suc n) m stage c t h =
+records-append zero m t [] d h = rw zero-add
+records-append zero m t (x ∷ c) d h = absurd (omega arith)
+records-append (suc n) m t c d h =
     let room : 16 ≤ length c = omega arith in
     let less : length (drop 16 c) ≡ 16 * n = simp length-drop (omega arith) in
-    ap (λ (k : ℕ). afterRecords stage k (c ++ t)) (suc-add n m)
-    ∙ ap (λ (l : List ℕ). afterRecords (afterRecord stage l) (n + m) (drop 16 (c ++ t))) (take-append-le 16 c t room)
-    ∙ ap (λ (l : List ℕ). afterRecords (afterRecord stage (take 16 c)) (n + m) l) (drop-append-le 16 c t room)
-    ∙ records-append n m (afterRecord stage (take 16 c)) (drop 16 c) t less
+    ap (λ (k : ℕ). afterRecords t k (c ++ d)) (suc-add n m)
+    ∙ ap (λ (l : List ℕ). afterRecords (afterRecord t l) (n + m) (drop 16 (c ++ d))) (take-append-le 16 c d room)
+    ∙ ap (λ (l : List ℕ). afterRecords (afterRecord t (take 16 c)) (n + m) l) (drop-append-le 16 c d room)
+    ∙ records-append n m (afterRecord t (take 16 c)) (drop 16 c) d less
 
--- no record is in order after a refusal
-pub past-most : (least most stage : ℕ) → most < stage → between least most stage ≡ false
-past-most least most stage h = rw (lt-leb stage most h) (and-false (leb least stage))
-
-record-stuck : (stage : ℕ) (r : List ℕ) → 3 ≤ stage → afterRecord stage r ≡ 4
-unfolding inOrder afterRecord
-record-stuck stage r h =
-    let none : rowOf r .place .follows stage r ≡ false =
-    by-place (λ (p : Place). p .follows stage r ≡ false) (past-most 0 0 stage (omega arith)) (past-most 1 1 stage (omega arith)) (past-most 1 2 stage (omega arith)) (kindOf r) in
-    ap (λ (b : Bool). cond (recordRight r && b) (rowOf r .place .leads stage r) 4) none ∙ ap (λ (b : Bool). cond b (rowOf r .place .leads stage r) 4) (and-false (recordRight r))
-
-pub records-stuck : (n stage : ℕ) (s : List ℕ) → 3 ≤ stage → 3 ≤ afterRecords stage n s
+-- a refusal stays
+pub records-stuck : (n : ℕ) (t : ReadStage) (s : List ℕ) → t .wrong ≢ 0 → afterRecords t n s ≡ t
 unfolding afterRecords
-records-stuck zero stage s h = h
-records-stuck (suc n) stage s h = records-stuck n (afterRecord stage (take 16 s)) (drop 16 s) (rw (record-stuck stage (take 16 s) h) (omega arith))
+records-stuck zero t s h = refl
+records-stuck (suc n) t s h = rw (after-stays t (take 16 s) h) (records-stuck n t (drop 16 s) h)
 
--- after a record the stage is past 0
-pub records-some : (n stage : ℕ) (r : List ℕ) → 1 ≤ n → 1 ≤ afterRecords stage n r
-unfolding afterRecords afterRecord
-records-some zero stage r h = absurd (omega arith)
-records-some (suc zero) stage r h = past (recordRight (take 16 r) && inOrder stage (take 16 r))
-  where
-    past : (a : Bool) → 1 ≤ cond a (rowOf (take 16 r) .place .leads stage (take 16 r)) 4
-    past true = by-place (λ (p : Place). 1 ≤ p .leads stage (take 16 r)) (omega arith) (omega arith) (omega arith) (kindOf (take 16 r))
-    past false = omega arith
-records-some (suc (suc n)) stage r h = records-some (suc n) (afterRecord stage (take 16 r)) (drop 16 r) (omega arith)
+-- so a stage that leads to none is none
+pub records-before : (n : ℕ) (t : ReadStage) (s : List ℕ) → (afterRecords t n s) .wrong ≡ 0 → t .wrong ≡ 0
+records-before n t s h =
+    bool (eqb (t .wrong) 0)
+    (λ e. eqb-true (t .wrong) 0 e)
+    (λ e. sym (ap (λ (u : ReadStage). u .wrong) (records-stuck n t s (eqb-false (t .wrong) 0 e))) ∙ h)
 
 -- NUMBERS IN BYTES. Bytes are those of the number that they hold
 pub four : (a b c d : ℕ) → a < 256 → b < 256 → c < 256 → d < 256 → (a ∷ b ∷ c ∷ d ∷ []) ≡ bytes4 (a + 256 * b + 65536 * (c + 256 * d))

@@ -1,21 +1,23 @@
 -- Which answer reading and writing give, and what they leave in the room. Assumes nothing.
 use mathlib.Core.Path.{_≡_, sym, ap, _∙_}
-use mathlib.Core.Bool.{Bool, true, false, _&&_, _||_}
-use mathlib.Core.List.{List}
+use mathlib.Core.Logic.{_≢_}
+use mathlib.Core.Bool.{Bool, true, false, not, _&&_, _||_}
+use mathlib.Core.List.{List, [], _∷_}
 use mathlib.Core.Option.{Option, none, some}
-use Prim.Native.Nat.{ℕ, zero, suc, _*_, _/_, _%_, _<_, _≤_}
+use Prim.Native.Nat.{ℕ, _*_, _/_, _%_, _<_, _≤_}
 use native.Mathlib.Omega.{arith}
-use borrow.Author.Tests.{lt-ltb, le-ltb, le-leb, lt-leb, eq-eqb, ne-eqb, eqb-true, eqb-false, leb-true, not-false}
+use borrow.Author.Tests.{lt-ltb, le-ltb, eq-eqb, ne-eqb, eqb-true, eqb-false, leb-true, not-false}
 use lib.Dec.{eqb, leb, ltb}
 use lib.ListN.{length}
 use Rattle.lists.specs.Lists.{over}
-use Rattle.lists.specs.Answer.{Answer, done, refused}
+use Rattle.lists.specs.Answer.{Answer, done, refused, _when_, refusal}
 use Rattle.lists.proofs.Bools.{bool, and-left, and-right, or-neither}
 use Rattle.lists.proofs.Refusals.{refusal-nil, refused-here, refused-later}
+use Rattle.blocks.specs.Record.{begun}
 use Rattle.blocks.specs.Block.{afterRecords}
 use Rattle.blocks.specs.File.{wholeBlocks, fileStage, fileRecords, notBlocks, readRefusal, FileResult, leaving}
 use Rattle.blocks.specs.File.{readFile, blocksFor, fileOf, recordsWrong, writeRefusal, writeFile}
-use Rattle.blocks.proofs.Stages.{blocks-most}
+use Rattle.blocks.proofs.Stages.{file-known}
 
 -- a file that is not refused with 2
 pub blocks-facts : (file : List ℕ) → notBlocks file ≡ false → (length file ≡ 512 * wholeBlocks file) × (1 ≤ wholeBlocks file) × (wholeBlocks file ≤ 128)
@@ -51,21 +53,20 @@ module _ (file room : List ℕ) where
     read-2 h = refused-later _ _ (le-ltb _ _ long) ∙ refused-here _ _ h
 
     module _ (whole : notBlocks file ≡ false) where
-      pub read-34 : 3 ≤ fileStage file → readRefusal file room ≡ some (fileStage file)
-      read-34 h =
-          let most : fileStage file ≤ 4 = blocks-most (wholeBlocks file) 0 0 file (omega arith) in
+      pub read-34 : (k : ℕ) → k ≡ (fileStage file) .wrong → k ≢ 0 → readRefusal file room ≡ some k
+      read-34 k e some-wrong =
           refused-later _ _ (le-ltb _ _ long) ∙ refused-later _ _ whole
-          ∙ bool (eqb (fileStage file) 3)
-          (λ e. refused-here _ _ e ∙ ap some (sym (eqb-true _ _ e)))
-          (λ e. let d : fileStage file ≡ 3 → ⊥ = eqb-false _ _ e in
-          let f : fileStage file ≡ 4 = omega (arith, d) in
-          refused-later _ _ e ∙ refused-here _ _ (eq-eqb _ _ f) ∙ ap some (sym f))
+          ∙ ap (λ (w : ℕ). refusal (3 when eqb w 3 ∷ 4 when eqb w 4 ∷ [])) (sym e)
+          ∙ bool (eqb k 3)
+          (λ f. refused-here _ _ f ∙ ap some (sym (eqb-true _ _ f)))
+          (λ f. let four : k ≡ 4 = file-known file (wholeBlocks file) k e some-wrong (eqb-false _ _ f) in
+          refused-later _ _ f ∙ refused-here _ _ (eq-eqb _ _ four) ∙ ap some (sym four))
 
-      pub read-none : fileStage file < 3 → readRefusal file room ≡ none
+      pub read-none : (fileStage file) .wrong ≡ 0 → readRefusal file room ≡ none
       read-none h =
           refused-later _ _ (le-ltb _ _ long) ∙ refused-later _ _ whole
-          ∙ refused-later _ _ (ne-eqb (fileStage file) 3 (λ e. omega arith))
-          ∙ refused-later _ _ (ne-eqb (fileStage file) 4 (λ e. omega arith))
+          ∙ refused-later _ _ (ap (λ (w : ℕ). eqb w 3) h)
+          ∙ refused-later _ _ (ap (λ (w : ℕ). eqb w 4) h)
           ∙ refusal-nil
 
 -- WRITING
@@ -99,18 +100,16 @@ module _ (records : List ℕ) (count : ℕ) (room : List ℕ) where
         pub write-none : recordsWrong records count ≡ false → writeRefusal records count room ≡ none
         write-none h = refused-later _ _ fits ∙ refused-later _ _ (le-ltb _ _ few) ∙ refused-later _ _ h ∙ refusal-nil
 
--- records whose stage is 0 are wrong, and those whose stage is above 2; those between are not
-pub no-records : (records : List ℕ) (count : ℕ) → afterRecords 0 count records < 1 → recordsWrong records count ≡ true
-no-records records count h = simp (lt-leb _ _ h)
+-- no records are wrong, and so are those that reading does not take; others are not
+pub no-records : (records : List ℕ) (count : ℕ) → count < 1 → recordsWrong records count ≡ true
+no-records records count h = let z : count ≡ 0 = omega arith in ap (λ (b : Bool). b || not (eqb ((afterRecords begun count records) .wrong) 0)) (eq-eqb count 0 z)
 
-pub wrong-records : (records : List ℕ) (count : ℕ) → 1 ≤ afterRecords 0 count records → 2 < afterRecords 0 count records → recordsWrong records count ≡ true
-wrong-records records count h g = simp (le-leb _ _ h, lt-leb _ _ g)
+module _ (records : List ℕ) (count : ℕ) (some-of : 1 ≤ count) {wrong : ℕ} (e : wrong ≡ (afterRecords begun count records) .wrong) where
+  not-none : eqb count 0 ≡ false
+  not-none = ne-eqb count 0 (λ z. omega arith)
 
-pub right-records : (records : List ℕ) (count : ℕ) → 1 ≤ afterRecords 0 count records → afterRecords 0 count records ≤ 2 → recordsWrong records count ≡ false
-right-records records count h g = simp (le-leb _ _ h, le-leb _ _ g)
+  pub wrong-records : wrong ≢ 0 → recordsWrong records count ≡ true
+  wrong-records h = ap (λ (b : Bool). b || not (eqb ((afterRecords begun count records) .wrong) 0)) not-none ∙ ap not (ap (λ (w : ℕ). eqb w 0) (sym e) ∙ ne-eqb wrong 0 h)
 
--- a stage past the first comes of a record
-pub stage-some : (count : ℕ) (records : List ℕ) → 1 ≤ afterRecords 0 count records → 1 ≤ count
-unfolding afterRecords
-stage-some zero records h = h
-stage-some (suc count) records h = omega arith
+  pub right-records : wrong ≡ 0 → recordsWrong records count ≡ false
+  right-records h = or-neither _ _ not-none (ap (λ (w : ℕ). not (eqb w 0)) (sym e ∙ h))

@@ -7,16 +7,21 @@ use lib.ListN.{length, take, drop, replicate}
 use lib.Dec.{eqb, leb}
 use Rattle.octets.specs.Bytes.{number2, number4, bytes2, bytes4, zeroBetween}
 use Rattle.octets.specs.Fletcher.{fletcher}
-use Rattle.blocks.specs.Record.{rowOf, recordRight, inOrder}
+use Rattle.blocks.specs.declared.ReadStage.{ReadStage}
+use Rattle.blocks.specs.Record.{faulty, Place, rowOf, recordRight}
 
--- the stage after one record
-unfoldable pub afterRecord : ℕ → List ℕ → ℕ
-afterRecord stage r = cond (recordRight r && inOrder stage r) (rowOf r .place .leads stage r) 4
+-- the stage after a record that is right, by its place: 4 where it may not come
+abbrev pub placed : Place → ReadStage → List ℕ → ReadStage
+placed p t r = cond (p .follows t r) (p .leads t r) (faulty 4 t)
+
+-- the stage after one record: a refusal stays
+unfoldable pub afterRecord : ReadStage → List ℕ → ReadStage
+afterRecord t r = cond (eqb (t .wrong) 0) (cond (recordRight r) (placed (rowOf r .place) t r) (faulty 4 t)) t
 
 -- the stage after n records of 16 bytes
-unfoldable pub afterRecords : ℕ → ℕ → List ℕ → ℕ
-afterRecords stage zero s = stage
-afterRecords stage (suc n) s = afterRecords (afterRecord stage (take 16 s)) n (drop 16 s)
+unfoldable pub afterRecords : ReadStage → ℕ → List ℕ → ReadStage
+afterRecords t zero s = t
+afterRecords t (suc n) s = afterRecords (afterRecord t (take 16 s)) n (drop 16 s)
 
 -- bytes 0 to 3 hold the block's number
 abbrev pub numberIn : List ℕ → ℕ
@@ -43,12 +48,13 @@ headRight number last block =
     && zeroBetween (8 + 16 * countIn block) 508 block
 
 -- the stage after a block: 3 where the check differs, before 4 where anything else is wrong
-unfoldable pub afterBlock : ℕ → (last : Bool) → ℕ → List ℕ → ℕ
-afterBlock number last stage block =
-    cond (leb 3 stage) stage
+unfoldable pub afterBlock : ℕ → (last : Bool) → ReadStage → List ℕ → ReadStage
+afterBlock number last t block =
+    cond (eqb (t .wrong) 0)
     (cond (eqb (checkIn block) (fletcher (take 508 block)))
-    (cond (headRight number last block) (afterRecords stage (countIn block) (drop 8 block)) 4)
-    3)
+    (cond (headRight number last block) (afterRecords t (countIn block) (drop 8 block)) (faulty 4 t))
+    (faulty 3 t))
+    t
 
 -- the records in a block
 unfoldable pub recordsIn : List ℕ → List ℕ

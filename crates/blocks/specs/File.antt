@@ -6,6 +6,8 @@ use Prim.Native.Nat.{ℕ, zero, suc, _+_, _*_, _/_, _%_}
 use lib.ListN.{length, take, drop}
 use lib.Dec.{eqb, leb, ltb}
 use Rattle.lists.specs.Answer.{Answer, done, refused, Check, _when_, refusal, answerOf, roomAfter}
+use Rattle.blocks.specs.declared.ReadStage.{ReadStage}
+use Rattle.blocks.specs.Record.{begun}
 use Rattle.blocks.specs.Block.{afterRecords, afterBlock, recordsIn, blockOf}
 use Rattle.blocks.specs.declared.ReadAnswer.{ReadAnswer}
 use Rattle.blocks.specs.declared.ReadAnswer.the-variants.{Records, Refused as ReadRefused}
@@ -13,9 +15,9 @@ use Rattle.blocks.specs.declared.WriteAnswer.{WriteAnswer}
 use Rattle.blocks.specs.declared.WriteAnswer.the-variants.{Blocks, Refused as WriteRefused}
 
 -- READING. The stage after k blocks, numbered from `number`; the last of them is the file's last
-unfoldable pub afterBlocks : ℕ → ℕ → ℕ → List ℕ → ℕ
-afterBlocks zero number stage s = stage
-afterBlocks (suc k) number stage s = afterBlocks k (suc number) (afterBlock number (eqb k 0) stage (take 512 s)) (drop 512 s)
+unfoldable pub afterBlocks : ℕ → ℕ → ReadStage → List ℕ → ReadStage
+afterBlocks zero number t s = t
+afterBlocks (suc k) number t s = afterBlocks k (suc number) (afterBlock number (eqb k 0) t (take 512 s)) (drop 512 s)
 
 -- the records of k blocks
 unfoldable pub recordsOf : ℕ → List ℕ → List ℕ
@@ -27,8 +29,8 @@ abbrev pub wholeBlocks : List ℕ → ℕ
 wholeBlocks file = length file / 512
 
 -- the stage after them
-abbrev pub fileStage : List ℕ → ℕ
-fileStage file = afterBlocks (wholeBlocks file) 0 0 file
+abbrev pub fileStage : List ℕ → ReadStage
+fileStage file = afterBlocks (wholeBlocks file) 0 begun file
 
 -- their records
 abbrev pub fileRecords : List ℕ → List ℕ
@@ -42,8 +44,8 @@ notBlocks file = not (eqb (length file % 512) 0 && leb 1 (wholeBlocks file) && l
 abbrev pub fileChecks : List ℕ → List Check
 fileChecks file =
     2 when notBlocks file
-    ∷ 3 when eqb (fileStage file) 3
-    ∷ 4 when eqb (fileStage file) 4
+    ∷ 3 when eqb ((fileStage file) .wrong) 3
+    ∷ 4 when eqb ((fileStage file) .wrong) 4
     ∷ []
 
 -- reading needs 496 bytes for each whole block
@@ -78,7 +80,7 @@ fileOf records count = blocksOf (blocksFor count) 0 (take (16 * count) records)
 
 -- 4: no records, or records that reading would not give back
 abbrev pub recordsWrong : List ℕ → ℕ → Bool
-recordsWrong records count = not (leb 1 (afterRecords 0 count records) && leb (afterRecords 0 count records) 2)
+recordsWrong records count = eqb count 0 || not (eqb ((afterRecords begun count records) .wrong) 0)
 
 -- writing needs 16 bytes for each record and 512 for each block; over 3,968 records is refused with 2
 abbrev pub writeRefusal : List ℕ → ℕ → List ℕ → Option ℕ

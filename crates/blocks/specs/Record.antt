@@ -1,10 +1,11 @@
 -- A record of 16 bytes: byte 0 is its kind, fields follow from byte 1, unused bytes are zero. Each kind is a row of the table `kinds`. Assumes nothing.
-use mathlib.Core.Bool.{Bool, false, cond, _&&_}
+use mathlib.Core.Bool.{Bool, false, cond, not, _&&_}
 use mathlib.Core.List.{List, [], _∷_}
-use Prim.Native.Nat.{ℕ, _+_}
-use lib.Dec.{eqb, leb}
+use Prim.Native.Nat.{ℕ, suc, _+_}
+use lib.Dec.{eqb, leb, ltb}
 use lib.ListN.{take, drop}
 use Rattle.octets.specs.Bytes.{byte, number2, number8, zeroBetween, zeroFrom}
+use Rattle.blocks.specs.declared.ReadStage.{ReadStage}
 
 -- FIELDS. Byte 0 of a record is its kind
 abbrev pub kindOf : List ℕ → ℕ
@@ -42,7 +43,11 @@ namesIn r = take (nameCountIn r) (drop 4 r)
 abbrev pub nodeIn : List ℕ → ℕ
 nodeIn r = byte 2 r
 
--- 5 put: value in bytes 4 to 11; 7 add is laid out like put, its number is there
+-- 8 value: byte 1 the node
+abbrev pub valueNodeIn : List ℕ → ℕ
+valueNodeIn r = byte 1 r
+
+-- 5 put, 8 value: value in bytes 4 to 11; 7 add is laid out like put, its number is there
 abbrev pub valueIn : List ℕ → ℕ
 valueIn r = number8 4 r
 
@@ -57,30 +62,51 @@ enterRight r =
     && leb 1 (nameCountIn r) && leb (nameCountIn r) 8
     && zeroFrom (4 + nameCountIn r) r
 
--- ORDER. Reading goes from record to record with a stage: 0 no record yet, 1 the size record and edges, 2 steps; 3 and 4 are the refusals
-abbrev pub ReadStage : Type 0
-ReadStage = ℕ
+-- a value is never zero
+unfoldable pub valueRight : List ℕ → Bool
+valueRight r = zeroButValue 2 r && not (eqb (valueIn r) 0)
+
+-- ORDER. Reading goes from record to record with a stage, `ReadStage`: where the last record stands, 1 the size record and edges, 2 values, 3 steps, and 0 before
+-- any; n of the size record; the least node that the next value may have; and 0, or the refusal that was found, 3 or 4
+abbrev pub reached : (at size next : ℕ) → ReadStage
+reached at size next = record { at = at; size = size; next = next; wrong = 0 }
+
+-- nothing is read
+abbrev pub begun : ReadStage
+begun = reached 0 0 0
+
+-- a refusal is found
+abbrev pub faulty : ℕ → ReadStage → ReadStage
+faulty k t = record { at = t .at; size = t .size; next = t .next; wrong = k }
 
 -- a place in the order: whether a record there may come at a stage, and the stage after it; both may look at the stage and at the record
 pub record Place : Type 0 where
   pub follows : ReadStage → List ℕ → Bool
   pub leads : ReadStage → List ℕ → ReadStage
 
--- the stages from one to another
+-- the last record stands at one of the places from one to another
 abbrev pub between : ℕ → ℕ → ReadStage → Bool
-between least most stage = leb least stage && leb stage most
+between least most t = leb least (t .at) && leb (t .at) most
 
 -- one size record comes first
 abbrev pub atFirst : Place
-atFirst = record { follows = λ stage r. between 0 0 stage; leads = λ stage r. 1 }
+atFirst = record { follows = λ t r. between 0 0 t; leads = λ t r. reached 1 (sizeIn r) (t .next) }
 
 -- then all edges
 abbrev pub amongEdges : Place
-amongEdges = record { follows = λ stage r. between 1 1 stage; leads = λ stage r. 1 }
+amongEdges = record { follows = λ t r. between 1 1 t; leads = λ t r. reached 1 (t .size) (t .next) }
+
+-- then values: ascending, so each node once, and below n
+abbrev pub amongValues : Place
+amongValues =
+    record {
+      follows = λ t r. between 1 2 t && (leb (t .next) (valueNodeIn r) && ltb (valueNodeIn r) (t .size));
+      leads = λ t r. reached 2 (t .size) (suc (valueNodeIn r));
+    }
 
 -- then steps
 abbrev pub amongSteps : Place
-amongSteps = record { follows = λ stage r. between 1 2 stage; leads = λ stage r. 2 }
+amongSteps = record { follows = λ t r. between 1 3 t; leads = λ t r. reached 3 (t .size) (t .next) }
 
 -- KINDS. A kind: byte 0 of its records, their place in the order, and whether fields and unused bytes of one are right
 pub record Kind : Type 0 where
@@ -92,7 +118,7 @@ pub record Kind : Type 0 where
 abbrev pub row : ℕ → Place → (List ℕ → Bool) → Kind
 row number place right = record { number = number; place = place; right = right }
 
--- size, edge, enter, get, put, leave, add
+-- size, edge, enter, get, put, leave, add, value
 unfoldable pub kinds : List Kind
 kinds =
     -- 1 size: bytes 1 and 2 are n
@@ -109,6 +135,8 @@ kinds =
     ∷ row 6 amongSteps (zeroFrom 2)
     -- 7 add: party, node, number in bytes 4 to 11
     ∷ row 7 amongSteps (zeroButValue 3)
+    -- 8 value: node, value in bytes 4 to 11
+    ∷ row 8 amongValues valueRight
     ∷ []
 
 -- the row of a kind; no record of a kind without a row is right
@@ -120,11 +148,11 @@ rowIn (k ∷ ks) kind = cond (eqb kind (k .number)) k (rowIn ks kind)
 abbrev pub rowOf : List ℕ → Kind
 rowOf r = rowIn kinds (kindOf r)
 
--- the kind has a row, and mode, name count and unused bytes are right. No length is asked: what is missing of 16 bytes counts as zero, and what is behind
+-- the kind has a row, and mode, name count, value and unused bytes are right. No length is asked: what is missing of 16 bytes counts as zero, and what is behind
 -- them as unused
 unfoldable pub recordRight : List ℕ → Bool
 recordRight r = rowOf r .right r
 
--- the record may come at a stage
-unfoldable pub inOrder : ReadStage → List ℕ → Bool
-inOrder stage r = rowOf r .place .follows stage r
+-- a step's kind: from 3 on, but not that of a value
+abbrev pub stepKind : ℕ → Bool
+stepKind kind = leb 3 kind && not (eqb kind 8)

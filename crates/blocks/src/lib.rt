@@ -5,8 +5,8 @@ ghost use Prim.Native.Nat.{_+_, _*_, _<_, _≤_};
 ghost use lib.ListN.{length};
 ghost use Rattle.lists.specs.Lists.{over};
 ghost use Rattle.octets.specs.Writes.{overAt};
-ghost use Rattle.blocks.specs.Record.{zeroButValue, enterRight, between, recordRight};
-ghost use Rattle.blocks.specs.Block.{afterRecord, afterRecords, countIn, countRight, headRight, afterBlock, recordsIn, blockOf};
+ghost use Rattle.blocks.specs.Record.{zeroButValue, enterRight, valueRight, recordRight, stepKind, begun, faulty, atFirst, amongEdges, amongValues, amongSteps};
+ghost use Rattle.blocks.specs.Block.{placed, afterRecord, afterRecords, countIn, countRight, headRight, afterBlock, recordsIn, blockOf};
 ghost use Rattle.blocks.specs.File.{afterBlocks, recordsOf, notBlocks, readFile, readMeaning, blocksOf, writeFile, writeMeaning};
 
 // Bytes of a record.
@@ -37,6 +37,18 @@ pub enum ReadAnswer {
 pub enum WriteAnswer {
     Blocks(usize),
     Refused(u8),
+}
+
+// How far reading has come.
+pub struct ReadStage {
+    // 0 no record yet, 1 the size record and edges, 2 values, 3 steps.
+    pub at: u8,
+    // n of the size record; 0 before it.
+    pub size: u16,
+    // The least node that the next value may have.
+    pub next: u16,
+    // 0, or the refusal that was found, 3 or 4.
+    pub wrong: u8,
 }
 
 // READING. Whether an enter has a mode, one to eight names, and zeros after them.
@@ -70,6 +82,26 @@ fn zero_but_value(r: &[u8], at: usize) -> bool
     octets::zero_from(r, 12)
 }
 
+// Whether a value is not zero, and the unused bytes of its record are.
+fn value_right(r: &[u8]) -> bool
+    ensures { λ ok. ⌜ ok ≡ valueRight (now (r .entry)) ⌝ }
+{
+    if !zero_but_value(r, 2) {
+        return false;
+    }
+    octets::number8(r, 4) != 0
+}
+
+// Whether a kind is a step's: from 3 on, but not 8, the kind of a value.
+pub fn step_kind(kind: u8) -> bool
+    ensures { λ r. ⌜ r ≡ stepKind kind ⌝ }
+{
+    if kind < 3 {
+        return false;
+    }
+    kind != 8
+}
+
 // Whether a record is right by itself, by its kind's row.
 pub fn record_right(r: &[u8]) -> bool
     ensures { λ ok. ⌜ ok ≡ recordRight (now (r .entry)) ⌝ }
@@ -83,45 +115,137 @@ pub fn record_right(r: &[u8]) -> bool
         5 => zero_but_value(r, 3),
         6 => octets::zero_from(r, 2),
         7 => zero_but_value(r, 3),
+        8 => value_right(r),
         _ => false,
     }
 }
 
-// The stage after a record that may come at the stages from `least` to `most`; 4 where it comes at another.
-fn led(stage: u8, least: u8, most: u8, next: u8) -> u8
-    ensures { λ n. ⌜ n ≡ cond (between least most stage) next 4 ⌝ }
+// Nothing is read.
+fn begin() -> ReadStage
+    ensures { λ t. ⌜ t ≡ begun ⌝ }
 {
-    if stage < least {
-        4
-    } else if stage > most {
-        4
-    } else {
-        next
+    ReadStage {
+        at: 0,
+        size: 0,
+        next: 0,
+        wrong: 0,
     }
 }
 
-// The stage after one record, by its kind's row.
-fn after_record(stage: u8, r: &[u8]) -> u8
-    ensures { λ n. ⌜ n ≡ afterRecord stage (now (r .entry)) ⌝ }
+// The stage with a refusal found.
+fn fault(t: ReadStage, k: u8) -> ReadStage
+    ensures { λ u. ⌜ u ≡ faulty k t ⌝ }
+{
+    ReadStage {
+        at: t.at,
+        size: t.size,
+        next: t.next,
+        wrong: k,
+    }
+}
+
+// The stage after a size record that is right: it comes first.
+fn after_size(t: ReadStage, r: &[u8]) -> ReadStage
+    ensures { λ u. ⌜ u ≡ placed atFirst t (now (r .entry)) ⌝ }
+{
+    let n = octets::number2(r, 1) as u16;
+    if t.at > 0 {
+        return fault(t, 4);
+    }
+    ReadStage {
+        at: 1,
+        size: n,
+        next: t.next,
+        wrong: 0,
+    }
+}
+
+// The stage after an edge that is right: it follows the size record and edges.
+fn after_edge(t: ReadStage, r: &[u8]) -> ReadStage
+    ensures { λ u. ⌜ u ≡ placed amongEdges t (now (r .entry)) ⌝ }
+{
+    if t.at < 1 {
+        return fault(t, 4);
+    }
+    if t.at > 1 {
+        return fault(t, 4);
+    }
+    ReadStage {
+        at: 1,
+        size: t.size,
+        next: t.next,
+        wrong: 0,
+    }
+}
+
+// The stage after a value that is right: it follows the edges and values of lower nodes, and its node is below n.
+fn after_value(t: ReadStage, r: &[u8]) -> ReadStage
+    ensures { λ u. ⌜ u ≡ placed amongValues t (now (r .entry)) ⌝ }
+{
+    let node = octets::byte(r, 1) as u16;
+    if t.at < 1 {
+        return fault(t, 4);
+    }
+    if t.at > 2 {
+        return fault(t, 4);
+    }
+    if node < t.next {
+        return fault(t, 4);
+    }
+    if node >= t.size {
+        return fault(t, 4);
+    }
+    ReadStage {
+        at: 2,
+        size: t.size,
+        next: node + 1,
+        wrong: 0,
+    }
+}
+
+// The stage after a step that is right: it follows the size record, edges, values and steps.
+fn after_step(t: ReadStage, r: &[u8]) -> ReadStage
+    ensures { λ u. ⌜ u ≡ placed amongSteps t (now (r .entry)) ⌝ }
+{
+    if t.at < 1 {
+        return fault(t, 4);
+    }
+    if t.at > 3 {
+        return fault(t, 4);
+    }
+    ReadStage {
+        at: 3,
+        size: t.size,
+        next: t.next,
+        wrong: 0,
+    }
+}
+
+// The stage after one record: a refusal stays; a record that is right leads on by its kind's place.
+fn after_record(t: ReadStage, r: &[u8]) -> ReadStage
+    ensures { λ u. ⌜ u ≡ afterRecord t (now (r .entry)) ⌝ }
 {
     let kind = octets::byte(r, 0);
-    if record_right(r) {
-        match kind {
-            1 => led(stage, 0, 0, 1),
-            2 => led(stage, 1, 1, 1),
-            _ => led(stage, 1, 2, 2),
-        }
-    } else {
-        4
+    if t.wrong != 0 {
+        return t;
+    }
+    if !record_right(r) {
+        return fault(t, 4);
+    }
+    match kind {
+        1 => after_size(t, r),
+        2 => after_edge(t, r),
+        8 => after_value(t, r),
+        _ => after_step(t, r),
     }
 }
 
 // The stage after n records.
-fn after_records(stage: u8, s: &[u8], n: usize) -> u8
+fn after_records(t: ReadStage, s: &[u8], n: usize) -> ReadStage
     requires { ⌜ 16 * n ≤ length (now s) ⌝ }
-    ensures { λ r. ⌜ r ≡ afterRecords stage n (now (s .entry)) ⌝ }
+    ensures { λ u. ⌜ u ≡ afterRecords t n (now (s .entry)) ⌝ }
 {
-    let mut reached = stage;
+    let mut reached = t;
     let mut i: usize = 0;
     while i < n {
         let at = RECORD * i;
@@ -166,31 +290,31 @@ fn head_right(number: u32, last: bool, block: &[u8]) -> bool
 }
 
 // The stage after a block of 512 bytes: 3 where the check differs, before 4 where anything else is wrong.
-fn after_block(number: u32, last: bool, stage: u8, block: &[u8]) -> u8
+fn after_block(number: u32, last: bool, t: ReadStage, block: &[u8]) -> ReadStage
     requires { ⌜ length (now block) ≡ 512 ⌝ }
-    ensures { λ r. ⌜ r ≡ afterBlock number last stage (now (block .entry)) ⌝ }
+    ensures { λ u. ⌜ u ≡ afterBlock number last t (now (block .entry)) ⌝ }
 {
-    if 3 <= stage {
-        return stage;
+    if t.wrong != 0 {
+        return t;
     }
     let computed = octets::block_check(&block[..CHECK]);
     let differs = octets::number4(block, CHECK) != computed;
     let right = head_right(number, last, block);
     if differs {
-        return 3;
+        return fault(t, 3);
     }
     if !right {
-        return 4;
+        return fault(t, 4);
     }
-    after_records(stage, &block[HEAD..], octets::number2(block, 4) as usize)
+    after_records(t, &block[HEAD..], octets::number2(block, 4) as usize)
 }
 
 // The stage after k blocks.
-fn after_blocks(file: &[u8], k: usize) -> u8
+fn after_blocks(file: &[u8], k: usize) -> ReadStage
     requires { ⌜ (512 * k ≤ length (now file)) × (k ≤ 128) ⌝ }
-    ensures { λ r. ⌜ r ≡ afterBlocks k 0 0 (now (file .entry)) ⌝ }
+    ensures { λ u. ⌜ u ≡ afterBlocks k 0 begun (now (file .entry)) ⌝ }
 {
-    let mut stage: u8 = 0;
+    let mut stage = begin();
     let mut i: usize = 0;
     while i < k {
         let at = BLOCK * i;
@@ -215,7 +339,7 @@ fn copy_block(block: &[u8], at: usize, room: &mut [u8]) -> usize
 
 // Writes the records of k blocks, and answers how many bytes these are.
 fn copy_records(file: &[u8], k: usize, room: &mut [u8]) -> usize
-    requires { ⌜ (length (now file) ≡ 512 * k) × (k ≤ 128) × (496 * k ≤ length (now room)) × (afterBlocks k 0 0 (now file) ≤ 2) ⌝ }
+    requires { ⌜ (length (now file) ≡ 512 * k) × (k ≤ 128) × (496 * k ≤ length (now room)) × ((afterBlocks k 0 begun (now file)) .wrong ≡ 0) ⌝ }
     ensures { λ r. ⌜ (r ≡ length (recordsOf k (now (file .entry)))) × (now (room .exit) ≡ over (recordsOf k (now (file .entry))) (now (room .entry))) ⌝ }
 {
     let mut to: usize = 0;
@@ -255,8 +379,9 @@ pub fn read(file: &[u8], room: &mut [u8]) -> ReadAnswer
         return ReadAnswer::Refused(2);
     }
     let reached = after_blocks(file, k);
-    if 3 <= reached {
-        return ReadAnswer::Refused(reached);
+    let wrong = reached.wrong;
+    if wrong > 0 {
+        return ReadAnswer::Refused(wrong);
     }
     let bytes = copy_records(file, k, room);
     ReadAnswer::Records(bytes / RECORD)
@@ -306,11 +431,12 @@ pub fn write(records: &[u8], count: usize, room: &mut [u8]) -> WriteAnswer
     if count > 3968 {
         return WriteAnswer::Refused(2);
     }
-    let reached = after_records(0, records, count);
-    if reached < 1 {
+    if count < 1 {
         return WriteAnswer::Refused(4);
     }
-    if reached > 2 {
+    let reached = after_records(begin(), records, count);
+    let amiss = reached.wrong;
+    if amiss != 0 {
         return WriteAnswer::Refused(4);
     }
     let end = RECORD * count;

@@ -9,7 +9,7 @@ use Rattle.lists.specs.Lists.{allBelow, anyBelow, every, any, sum}
 use Rattle.lists.specs.Answer.{_when_, refusal}
 use Rattle.hierarchy.specs.Hierarchy.{someEdge, spread, spreads, reach, edgeTwice, someUnreached}
 use Rattle.octets.specs.Fletcher.{words, sums, fletcher}
-use Rattle.blocks.specs.Record.{enterRight, kinds, rowIn, recordRight, inOrder}
+use Rattle.blocks.specs.Record.{enterRight, kinds, rowIn, valueRight, recordRight}
 use Rattle.blocks.specs.Block.{afterRecord, afterRecords, countRight, headRight, afterBlock, blockBody, blockOf}
 use Rattle.blocks.specs.File.{afterBlocks, notBlocks, recordsWrong, writeRefusal}
 use Rattle.naming.specs.Names.{insert, insertAll, risesFrom}
@@ -23,12 +23,12 @@ unfolding allBelow anyBelow every any sum refusal someEdge spread spreads reach 
 all-edges = refl
 
 pub all-block-edges : every right blockEdges ≡ true
-unfolding every refusal words sums fletcher enterRight kinds rowIn recordRight inOrder afterRecord afterRecords countRight headRight afterBlock
+unfolding every refusal words sums fletcher enterRight kinds rowIn valueRight recordRight afterRecord afterRecords countRight headRight afterBlock
     blockBody blockOf afterBlocks notBlocks sameNumbers right blockEdges
 all-block-edges = refl
 
 pub all-record-edges : every right recordEdges ≡ true
-unfolding every refusal enterRight kinds rowIn recordRight inOrder afterRecord afterRecords right recordEdges
+unfolding every refusal enterRight kinds rowIn valueRight recordRight afterRecord afterRecords right recordEdges
 all-record-edges = refl
 
 pub all-sound-edges : every right soundEdges ≡ true

@@ -9,7 +9,7 @@ use Rattle.intervals.specs.Intervals.{numbersAmong, lowOf, highOf, intervalsFro
 use Rattle.intervals.specs.Cover.{closest}
 use Rattle.intervals.specs.Build.{buildStep}
 use Rattle.octets.specs.Fletcher.{words, sums, fletcher}
-use Rattle.blocks.specs.Record.{enterRight, kinds, rowIn, recordRight, inOrder}
+use Rattle.blocks.specs.Record.{enterRight, kinds, rowIn, valueRight, recordRight}
 use Rattle.blocks.specs.Block.{afterRecord, afterRecords, countRight, headRight, afterBlock, recordsIn, blockBody, blockOf}
 use Rattle.blocks.specs.File.{afterBlocks, recordsOf, notBlocks, blocksOf}
 use Rattle.naming.specs.Names.{insert, insertAll, risesFrom}
@@ -18,15 +18,15 @@ use Rattle.sweeps.specs.Sweeps.{offer, sweep}
 use Rattle.grants.specs.Grants.{countGrants}
 use Rattle.desk.specs.Steps.{enterStep, getStep, putStep, addStep, leaveStep}
 use Rattle.runs.specs.Run.{lend, restored, lentTo, afterEnter, afterGet, afterPut, afterAdd, listed, afterLeave, moveCall, move, alsoRan, run}
-use Rattle.replay.specs.Replay.{eachRecord, edgeTable, runRecords, runFile}
+use Rattle.replay.specs.Replay.{eachRecord, edgeTable, valuesFrom, runRecords, runFile}
 use Rattle.examples.specs.Cases.{sameNumbers, asNumbers, sameAnswers, unrefused, wrote, spans, disjoint, withGrants, gave, passes}
 use Rattle.examples.specs.Table.{fileT, fileShared, starred}
 
 pub all-starred : every passes starred ≡ true
 unfolding allBelow anyBelow every any keep count sum over foldFrom least greatest refusal children someEdge spread spreads reach edgeTwice
     someUnreached meet visit inside walk numbering numbersAmong lowOf highOf intervalsFrom intervalTable closest buildStep words sums
-    fletcher enterRight kinds rowIn recordRight inOrder afterRecord afterRecords countRight headRight afterBlock recordsIn blockBody blockOf afterBlocks
-    recordsOf notBlocks blocksOf insert insertAll risesFrom soundParties enterStep getStep putStep addStep offer sweep countGrants leaveStep eachRecord edgeTable lend restored lentTo afterEnter afterGet afterPut afterAdd listed afterLeave
+    fletcher enterRight kinds rowIn valueRight recordRight afterRecord afterRecords countRight headRight afterBlock recordsIn blockBody blockOf afterBlocks
+    recordsOf notBlocks blocksOf insert insertAll risesFrom soundParties enterStep getStep putStep addStep offer sweep countGrants leaveStep eachRecord edgeTable valuesFrom lend restored lentTo afterEnter afterGet afterPut afterAdd listed afterLeave
     moveCall move alsoRan run
     runRecords runFile sameNumbers asNumbers sameAnswers unrefused wrote spans disjoint withGrants gave passes fileT fileShared starred
 all-starred = refl

@@ -10,7 +10,7 @@ use Rattle.parties.specs.Sound.{soundParties}
 use Rattle.sweeps.specs.Sweeps.{offer, sweep}
 use Rattle.grants.specs.Grants.{countGrants}
 use Rattle.desk.specs.Steps.{enterStep, getStep, putStep, addStep, leaveStep}
-use Rattle.blocks.specs.Record.{enterRight, kinds, rowIn, recordRight}
+use Rattle.blocks.specs.Record.{enterRight, valueRight, kinds, rowIn, recordRight}
 use Rattle.runs.specs.Run.{lend, restored, lentTo, afterEnter, afterGet, afterPut, afterAdd, listed, afterLeave, moveCall, move}
 use Rattle.examples.specs.Cases.{sameNumbers, asNumbers, sameAnswers}
 use Rattle.examples.specs.Rows.{right}
@@ -33,6 +33,6 @@ all-desks = refl
 
 pub all-records : every right records ≡ true
 unfolding allBelow anyBelow every any keep over foldFrom least greatest refusal someEdge spread spreads reach closest insert insertAll risesFrom soundParties enterStep getStep putStep addStep offer sweep countGrants leaveStep
-    enterRight kinds rowIn recordRight lend restored lentTo afterEnter afterGet afterPut afterAdd listed afterLeave moveCall move
+    enterRight valueRight kinds rowIn recordRight lend restored lentTo afterEnter afterGet afterPut afterAdd listed afterLeave moveCall move
     sameNumbers asNumbers sameAnswers allStages deskNumbers right records
 all-records = refl

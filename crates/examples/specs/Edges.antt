@@ -27,7 +27,7 @@ use Rattle.desk.specs.Steps.{enterRefusal, valueChecks, getOwn, putOwn, addOwn,
 use Rattle.replay.specs.Replay.{granted, waits, value, stored, added, left, refused}
 use Rattle.examples.specs.Cases.{Case, listing}
 use Rattle.examples.specs.Rows.{Row, is, are}
-use Rattle.examples.specs.Table.{bytes16, edge, enter1, get, put, leave, add, size}
+use Rattle.examples.specs.Table.{bytes16, edge, enter1, get, put, leave, add, valueAt, size}
 use Rattle.examples.specs.Steps.{locked, lock, seat, list}
 
 -- names with another count
@@ -233,12 +233,16 @@ enterWith mode nameCount = bytes16 (3 ∷ 0 ∷ mode ∷ nameCount ∷ [])
 -- the conditions of records
 unfoldable pub recordEdges : List Row
 recordEdges =
-    -- 4, kind: 1 size to 7 add
+    -- 4, kind: 1 size to 8 value
     is (one (recordRight (bytes16 (0 ∷ [])))) 0
     ∷ is (one (recordRight (bytes16 (1 ∷ [])))) 1
     ∷ is (one (recordRight (bytes16 (6 ∷ [])))) 1
     ∷ is (one (recordRight (bytes16 (7 ∷ [])))) 1
-    ∷ is (one (recordRight (bytes16 (8 ∷ [])))) 0
+    ∷ is (one (recordRight (valueAt 0 1))) 1
+    ∷ is (one (recordRight (bytes16 (9 ∷ [])))) 0
+    -- 4, a value that is zero; the last of its eight bytes is enough
+    ∷ is (one (recordRight (valueAt 0 0))) 0
+    ∷ is (recordWith (valueAt 0 0) 11) 1
     -- 4, mode: 1 reading, 2 writing, 3 adding
     ∷ is (one (recordRight (enterWith 0 1))) 0
     ∷ is (one (recordRight (enterWith 1 1))) 1
@@ -249,7 +253,7 @@ recordEdges =
     ∷ is (one (recordRight (enterWith 1 0))) 0
     ∷ is (one (recordRight (enterWith 1 8))) 1
     ∷ is (one (recordRight (enterWith 1 9))) 0
-    -- 4, unused byte of a record: size has bytes 1 and 2, edge 1 and 2, enter 1 to 3 and its names from 4 on, 11 at most, get 1 and 2, put 1, 2 and 4 to 11, leave 1, add as put
+    -- 4, unused byte of a record: size has bytes 1 and 2, edge 1 and 2, enter 1 to 3 and its names from 4 on, 11 at most, get 1 and 2, put 1, 2 and 4 to 11, leave 1, add as put, value 1 and 4 to 11
     ∷ is (recordWith (size 1) 2) 1
     ∷ is (recordWith (size 1) 3) 0
     ∷ is (recordWith (edge 0 1) 2) 1
@@ -273,12 +277,31 @@ recordEdges =
     ∷ is (recordWith (add 0 1 1) 11) 1
     ∷ is (recordWith (add 0 1 1) 12) 0
     ∷ is (recordWith (add 0 1 1) 15) 0
-    -- 4, order: one size record comes first, then all edges, then steps
+    ∷ is (recordWith (valueAt 0 1) 1) 1
+    ∷ is (recordWith (valueAt 0 1) 2) 0
+    ∷ is (recordWith (valueAt 0 1) 3) 0
+    ∷ is (recordWith (valueAt 0 1) 4) 1
+    ∷ is (recordWith (valueAt 0 1) 11) 1
+    ∷ is (recordWith (valueAt 0 1) 12) 0
+    ∷ is (recordWith (valueAt 0 1) 15) 0
+    -- 4, order: one size record comes first, then all edges, then values, then steps
     ∷ is (writingRecords (edge 0 1) 1 512) 4
     ∷ is (writingRecords (size 2 ++ size 2) 2 512) 4
     ∷ is (writingRecords (size 2 ++ edge 0 1 ++ leave 0) 3 512) 0
     ∷ is (writingRecords (size 2 ++ leave 0 ++ edge 0 1) 3 512) 4
     ∷ is (writingRecords (size 2 ++ leave 0 ++ size 2) 3 512) 4
+    ∷ is (writingRecords (size 2 ++ edge 0 1 ++ valueAt 1 7 ++ leave 0) 4 512) 0
+    ∷ is (writingRecords (size 2 ++ valueAt 1 7) 2 512) 0
+    ∷ is (writingRecords (valueAt 1 7 ++ size 2) 2 512) 4
+    ∷ is (writingRecords (size 2 ++ valueAt 1 7 ++ edge 0 1) 3 512) 4
+    ∷ is (writingRecords (size 2 ++ leave 0 ++ valueAt 1 7) 3 512) 4
+    -- 4, values: ascending, each node once, below n, by the size record's n even where that is refused with 5 later
+    ∷ is (writingRecords (size 2 ++ valueAt 0 7 ++ valueAt 1 7) 3 512) 0
+    ∷ is (writingRecords (size 2 ++ valueAt 1 7 ++ valueAt 0 7) 3 512) 4
+    ∷ is (writingRecords (size 2 ++ valueAt 1 7 ++ valueAt 1 8) 3 512) 4
+    ∷ is (writingRecords (size 2 ++ valueAt 2 7) 2 512) 4
+    ∷ is (writingRecords (size 0 ++ valueAt 0 7) 2 512) 4
+    ∷ is (writingRecords (bytes16 (1 ∷ 0 ∷ 1 ∷ []) ++ valueAt 255 7) 2 512) 0
     ∷ []
 
 -- A SOUND DESK: whether each of its nine clauses holds, in the paper's order, those of 02's point 6 behind the covers, and then whether the desk is sound

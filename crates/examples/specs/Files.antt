@@ -42,10 +42,10 @@ files =
     -- no records, into any room
     ∷ is (writing 0 six 512) 4
     ∷ is (writing 0 [] 0) 4
-    -- right records, an add among them; and 4 where reading would not give them back: kind 8, an edge after a step, a second size, no size, an unused byte
+    -- right records, an add among them; and 4 where reading would not give them back: a value after a step, an edge after a step, a second size, no size, an unused byte
     ∷ is (writing 6 six 512) 0
     ∷ is (writing 7 (six ++ (7 ∷ replicate 15 0)) 512) 0
-    ∷ is (writing 7 (six ++ (8 ∷ replicate 15 0)) 512) 4
+    ∷ is (writing 7 (six ++ (8 ∷ 1 ∷ 0 ∷ 0 ∷ 7 ∷ replicate 11 0)) 512) 4
     ∷ is (writing 7 (six ++ edge 0 3) 512) 4
     ∷ is (writing 7 (six ++ size 10) 512) 4
     ∷ is (writing 2 (edge 0 1 ++ edge 0 2) 512) 4

@@ -468,14 +468,15 @@ records =
     ∷ answer (performing tableT (get 1 9)) (value 100 ∷ [])
     ∷ answer (performing tableT (put 1 9 77)) (stored ∷ [])
     ∷ are (performedTo tableT (put 1 9 77)) (deskNumbers four ++ set (replicate 10 100) 9 77)
-    -- kinds that are no step's: none, size, edge, 8; a 7 is an add, which 3, a reader, may not
+    -- kinds that are no step's: none, size, edge, 8 though it is a right value, 10; a 7 is an add, which 3, a reader, may not
     ∷ answer (performing tableT (bytes16 [])) (refused 4 ∷ [])
     ∷ answer (performing tableT (size 10)) (refused 4 ∷ [])
     ∷ answer (performing tableT (edge 0 1)) (refused 4 ∷ [])
-    ∷ answer (performing tableT (bytes16 (8 ∷ 3 ∷ []))) (refused 4 ∷ [])
+    ∷ answer (performing tableT (bytes16 (8 ∷ 3 ∷ 0 ∷ 0 ∷ 77 ∷ []))) (refused 4 ∷ [])
+    ∷ answer (performing tableT (bytes16 (10 ∷ 3 ∷ []))) (refused 4 ∷ [])
     ∷ answer (performing tableT (add 3 3 5)) (refused 18 ∷ [])
     -- desk and values are as they were
-    ∷ are (performedTo tableT (bytes16 (8 ∷ 3 ∷ []))) (deskNumbers four ++ replicate 10 100)
+    ∷ are (performedTo tableT (bytes16 (8 ∷ 3 ∷ 0 ∷ 0 ∷ 77 ∷ []))) (deskNumbers four ++ replicate 10 100)
     -- a mode other than 1, 2 or 3, no name, an unused byte that is not zero
     ∷ answer (performing tableT (enter1 5 4 3)) (refused 4 ∷ [])
     ∷ answer (performing tableT (bytes16 (3 ∷ 5 ∷ 1 ∷ 0 ∷ []))) (refused 4 ∷ [])
@@ -485,5 +486,5 @@ records =
     ∷ answer (performing tableT (leave 3 ++ (0 ∷ []))) (refused 4 ∷ [])
     -- lent no intervals: 1 to a right step, and still 4 to what is none
     ∷ answer (performing (lent 10 [] T 11) (leave 3)) (refused 1 ∷ [])
-    ∷ answer (performing (lent 10 [] T 11) (bytes16 (8 ∷ 3 ∷ []))) (refused 4 ∷ [])
+    ∷ answer (performing (lent 10 [] T 11) (bytes16 (8 ∷ 3 ∷ 0 ∷ 0 ∷ 77 ∷ []))) (refused 4 ∷ [])
     ∷ []

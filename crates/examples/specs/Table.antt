@@ -49,6 +49,10 @@ leave party = bytes16 (6 ∷ party ∷ [])
 abbrev pub add : ℕ → ℕ → ℕ → List ℕ
 add party node number = bytes16 (7 ∷ party ∷ node ∷ 0 ∷ number ∷ [])
 
+-- 8 value: byte 1 node, a value below 256 in byte 4
+abbrev pub valueAt : ℕ → ℕ → List ℕ
+valueAt node number = bytes16 (8 ∷ node ∷ 0 ∷ 0 ∷ number ∷ [])
+
 -- the greatest number, in bytes 4 to 11
 abbrev pub addMost : ℕ → ℕ → List ℕ
 addMost party node = bytes16 (7 ∷ party ∷ node ∷ 0 ∷ replicate 8 255)

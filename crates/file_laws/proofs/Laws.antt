@@ -23,11 +23,11 @@ use Rattle.locks.specs.Lent.{Hierarchy}
 use Rattle.desk.specs.Steps.{granted as admitted, Admission, waits as queued}
 use Rattle.runs.specs.Run.{Call, Event, entered, got, stored, added, left, State, Moved, afterEnter, afterGet, afterPut, afterAdd, afterLeave, moveCall, move, alsoRan, run}
 use Rattle.replay.specs.Replay.{enterCall, getCall, putCall, leaveCall, addCall, callOf, stepOf, enterLine, getLine, putLine, addLine, leaveLine, answerIn, performStep, FileRun, performAll}
-use Rattle.replay.specs.Replay.{answersOf, builtOf, startOf, fileRun, sizeOf, stepRecords, edgeTable, edgeCountOf, runUnless, runRecords, recordList, runFile, fileUnless}
+use Rattle.replay.specs.Replay.{answersOf, builtOf, valuesIn, startOf, fileRun, sizeOf, stepRecords, edgeTable, edgeCountOf, runUnless, runRecords, recordList, runFile, fileUnless}
 use Rattle.replay.proofs.Outcomes.{call-3, call-4, call-5, call-6, call-7}
-use Rattle.replay.proofs.Records.{edge-table-length}
+use Rattle.replay.proofs.Records.{edge-table-length, values-length}
 use Rattle.history.specs.Serial.{Built, SerialSteps}
-use Rattle.history.proofs.Serializable.{demand-3}
+use Rattle.history.proofs.Serializable.{serializable}
 use Rattle.file_laws.specs.Files.{refusedEvent, eventOf, eventsOf, FileSerial}
 
 -- THE EVENT OF A STEP is that of its record and its answer
@@ -135,11 +135,15 @@ module _ (rs : List (List ℕ)) where
               ∙ take-at table (drop (length table) places) (2 * sizeOf rs) (built-length (sizeOf rs) (edgeTable rs)));
         }
 
-    accepted-serial : FileSerial rs (fileRun (performAll (startOf (builtOf rs) (sizeOf rs)) (stepRecords rs)))
+    -- there are as many values as nodes
+    sized : length (valuesIn (sizeOf rs) rs) ≡ sizeOf rs
+    sized = values-length rs (replicate (sizeOf rs) 0) ∙ length-replicate (sizeOf rs) 0
+
+    accepted-serial : FileSerial rs (fileRun (performAll (startOf (builtOf rs) rs) (stepRecords rs)))
     accepted-serial =
-        let s : State = startOf (builtOf rs) (sizeOf rs) in
-        subst (λ (events : List (Event ℕ)). SerialSteps (replicate (sizeOf rs) 0) events ((performAll s (stepRecords rs)) .state .values)) (events-are (stepRecords rs) s)
-        (demand-3 (builtOf rs) file-built (map stepOf (stepRecords rs)))
+        let s : State = startOf (builtOf rs) rs in
+        subst (λ (events : List (Event ℕ)). SerialSteps (valuesIn (sizeOf rs) rs) events ((performAll s (stepRecords rs)) .state .values)) (events-are (stepRecords rs) s)
+        (serializable (builtOf rs) file-built (valuesIn (sizeOf rs) rs) sized (map stepOf (stepRecords rs)))
 
   -- of the records of a file
   pub records-serial : (run : FileRun) → runRecords rs ≡ done run → FileSerial rs run

@@ -1,12 +1,11 @@
 -- Demand 3, said of a file: the book is fed the file's step records and the answers of its listing, and nothing else. Assumes nothing.
 use mathlib.Core.List.{List, [], _∷_}
 use Prim.Native.Nat.{ℕ}
-use lib.ListN.{replicate}
 use Rattle.lists.specs.Answer.{done, refused as denied}
 use Rattle.blocks.specs.Record.{partyIn, nodeIn, valueIn}
 use Rattle.desk.specs.Steps.{granted as admitted, waits as queued}
 use Rattle.runs.specs.Run.{Call, enter, get, put, add, leave, Event, entered, got, stored as wrote, added as summed, left as gone}
-use Rattle.replay.specs.Replay.{callOf, StepAnswer, granted, waits, value, stored, added, left, refused, FileRun, sizeOf, stepRecords}
+use Rattle.replay.specs.Replay.{callOf, StepAnswer, granted, waits, value, stored, added, left, refused, FileRun, sizeOf, stepRecords, valuesIn}
 use Rattle.history.specs.Serial.{SerialSteps}
 
 -- the event of a call that was refused
@@ -38,6 +37,6 @@ eventsOf (r ∷ rs) (a ∷ answers) = eventOf r a ∷ eventsOf rs answers
 abbrev pub fileEvents : List (List ℕ) → FileRun → List (Event ℕ)
 fileEvents rs run = eventsOf (stepRecords rs) (run .answers)
 
--- the n values after the file, and what its gets answered, are those of whole visits performed in order of granting from n zeros
+-- the n values after the file, and what its gets answered, are those of whole visits performed in order of granting from the file's n values
 abbrev pub FileSerial : List (List ℕ) → FileRun → Type 0
-FileSerial rs run = SerialSteps (replicate (sizeOf rs) 0) (fileEvents rs run) (run .values)
+FileSerial rs run = SerialSteps (valuesIn (sizeOf rs) rs) (fileEvents rs run) (run .values)

@@ -276,10 +276,11 @@ pub record Fine (s : State) : Type 0 where
   pub desk : Bounded (s .desk)
   pub values : Below 18446744073709551616 (s .values)
 
-module _ (s : State) (r : List ℕ) (bytes : Below 256 r) (f : Fine s) where
-  number-wide : valueIn r < 18446744073709551616
-  number-wide = omega (arith, bytes 4, bytes 5, bytes 6, bytes 7, bytes 8, bytes 9, bytes 10, bytes 11)
+-- a number in eight bytes
+pub number-wide : (r : List ℕ) → Below 256 r → valueIn r < 18446744073709551616
+number-wide r bytes = omega (arith, bytes 4, bytes 5, bytes 6, bytes 7, bytes 8, bytes 9, bytes 10, bytes 11)
 
+module _ (s : State) (r : List ℕ) (bytes : Below 256 r) (f : Fine s) where
   abbrev H : Hierarchy
   H = lentTo (stepOf r) (s .hierarchy)
 
@@ -292,7 +293,7 @@ module _ (s : State) (r : List ℕ) (bytes : Below 256 r) (f : Fine s) where
       let x = enter-bounded H (s .desk) (partyIn r) (modeNumbered (modeIn r)) (namesIn r) (nameCountIn r) (f .desk) in (record { desk = x .0; values = f .values }, x .1)
   asks-fine false true c d = let x = get-bounded H (s .desk) (partyIn r) (nodeIn r) (s .values) freshScratch (f .desk) (f .values) in (record { desk = x .0; values = f .values }, x .1)
   asks-fine false false true d =
-      let x = put-bounded H (s .desk) (partyIn r) (nodeIn r) (valueIn r) (s .values) freshScratch (f .desk) (f .values) number-wide in
+      let x = put-bounded H (s .desk) (partyIn r) (nodeIn r) (valueIn r) (s .values) freshScratch (f .desk) (f .values) (number-wide r bytes) in
       (record { desk = x .0; values = rw (restored-full (s .values) _ (put-length H (s .desk) (partyIn r) (nodeIn r) (valueIn r) (s .values) freshScratch)) (x .1) }, x .2)
   asks-fine false false false true = let x = leave-bounded H (s .desk) (partyIn r) (f .desk) in (record { desk = x .0; values = f .values }, x .1)
   asks-fine false false false false =

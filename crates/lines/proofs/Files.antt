@@ -1,5 +1,5 @@
 -- What listing a file leaves: its values, its text and its answer. Assumes nothing.
-use mathlib.Core.Path.{_≡_, refl, sym, ap, subst, _∙_}
+use mathlib.Core.Path.{_≡_, refl, sym, ap, _∙_}
 use mathlib.Core.Bool.{true, false, _||_}
 use mathlib.Core.List.{List, [], _++_}
 use mathlib.Core.Option.{Option, none, some}
@@ -37,10 +37,9 @@ run-shown ran n values text part e p l =
     let v : part ++ drop n values ≡ over (ran .state .values) values = ap (λ (k : ℕ). part ++ drop k values) (sym l) ∙ ap (λ (t : List ℕ). over t values) (p .0) in
     rw e (record { values-after = v; text-after = p .1 })
 
-pub ready-shown : (H : Hierarchy) (steps : List (List ℕ)) (m n : ℕ) {a : Answer FileRun} (values text part : List ℕ) {text′ : List ℕ} {r : ℕ} → a ≡ done (fileRun (performAll (startOf H n) steps))
-    → m ≡ n → length part ≡ m → RunListed (performAll (startOf H m) steps) text part text′ r → Listing a values text (part ++ drop n values) text′ r
-ready-shown H steps m n values text part {text′} {r} e f l p =
-    run-shown (performAll (startOf H n) steps) n values text part e (subst (λ (k : ℕ). RunListed (performAll (startOf H k) steps) text part text′ r) f p) (l ∙ f)
+pub ready-shown : (H : Hierarchy) (rs steps : List (List ℕ)) {a : Answer FileRun} (values text part : List ℕ) {text′ : List ℕ} {r : ℕ} → a ≡ done (fileRun (performAll (startOf H rs) steps))
+    → length part ≡ H .n → RunListed (performAll (startOf H rs) steps) text part text′ r → Listing a values text (part ++ drop (H .n) values) text′ r
+ready-shown H rs steps values text part e l p = run-shown (performAll (startOf H rs) steps) (H .n) values text part e p l
 
 -- LISTING into lent places
 module _ (file values text : List ℕ) where

@@ -6,15 +6,15 @@ use mathlib.Core.Option.{Option, none, some}
 use Prim.Native.Nat.{ℕ, zero, suc, _+_, _*_, _/_, _≤_, _<_}
 use native.Mathlib.Nat.{pow-zero, pow-suc}
 use native.Mathlib.Omega.{arith}
-use lib.Dec.{eqb, leb}
-use lib.ListN.{length, take, drop, length-append}
+use lib.Dec.{eqb}
+use lib.ListN.{length, take, drop, set, replicate, length-append}
 use Rattle.lists.proofs.Loops.{count-most, keep-few}
-use Rattle.lists.proofs.Marks.{zero-at}
+use Rattle.lists.proofs.Marks.{set-get, zero-at}
 use Rattle.grants.proofs.Counts.{sum-most}
 use Rattle.lists.specs.Lists.{every, keptIf, keep, sum, Below}
 use Rattle.lists.specs.Answer.{done, refused, refusal}
 use Rattle.hierarchy.specs.Hierarchy.{hierarchyChecks}
-use Rattle.blocks.specs.Record.{kindOf}
+use Rattle.blocks.specs.Record.{kindOf, valueNodeIn, valueIn, stepKind}
 use Rattle.blocks.specs.Block.{countIn, recordsIn}
 use Rattle.blocks.specs.File.{recordsOf, wholeBlocks, fileRecords, fileChecks}
 use Rattle.block_laws.proofs.Pieces.{bytes-take, bytes-drop}
@@ -23,14 +23,14 @@ use Rattle.desk.specs.declared.Desk.{Desk}
 use Rattle.locks.specs.Stages.{isHolding}
 use Rattle.locks.specs.Lent.{Hierarchy}
 use Rattle.runs.specs.Run.{State, Ran, alsoRan, run}
-use Rattle.replay.specs.Replay.{StepAnswer, answerIn, answersOf, eachRecord, recordList, stepRecords, sizeOf, edgeTable, edgeCountOf, builtOf}
+use Rattle.replay.specs.Replay.{StepAnswer, answerIn, answersOf, eachRecord, recordList, stepRecords, sizeOf, edgeTable, edgeCountOf, builtOf, withValue, valuesFrom}
 use Rattle.replay.specs.Replay.{startOf, performStep, performAll, holdersAt, fileRun, runUnless, runRecords, fileUnless, runFile}
 use Rattle.replay.proofs.Records.{records-length}
 use Rattle.opening.proofs.Opens.{records-whole}
 use Rattle.texts.specs.Text.{decimal, space, newline, answerText, refusedWord, endWord, partyWord}
 use Rattle.texts.specs.Lines.{stepLine, stepLines, endLine, partyLine, lineIfGranted, partyLines, endLines, listing}
 use Rattle.texts.proofs.Puts.{decimal-most}
-use Rattle.lines.proofs.Bounds.{below-append, digits-most, Short, AtMost, refusal-low, Bounded, Fine, perform-fine, fresh-bounded}
+use Rattle.lines.proofs.Bounds.{below-append, digits-most, Short, AtMost, refusal-low, Bounded, Fine, number-wide, perform-fine, fresh-bounded}
 
 -- A LINE has at most 160 bytes
 line-most : (k : ℕ) → k < 18446744073709551616 → (a : StepAnswer) → Short a → length (stepLine k a) ≤ 160
@@ -62,7 +62,7 @@ each-bytes (suc k) bytes b = (bytes-take 16 bytes b, each-bytes k (drop 16 bytes
 pub steps-bytes : (rs : List (List ℕ)) → AllBytes rs → AllBytes (stepRecords rs)
 unfolding keep
 steps-bytes [] b = tt
-steps-bytes (r ∷ rs) b = by (leb 3 (kindOf r)) (steps-bytes rs (b .1))
+steps-bytes (r ∷ rs) b = by (stepKind (kindOf r)) (steps-bytes rs (b .1))
   where
     by : (t : Bool) → AllBytes (stepRecords rs) → AllBytes (keptIf t r (stepRecords rs))
     by true more = (b .0, more)
@@ -123,15 +123,24 @@ desk-end-most d b =
     (omega (arith, count-most (λ (e : Entry). isHolding (e .stage)) (d .entries), b .entries)) (omega (arith, b .waiting)) (omega (arith, sum-most (d .grants) (b .grants), b .grants-long)) in
     omega (arith, length-append end (partyLines 0 (d .grants)), few, parties-most (d .grants) 0 (omega (arith, b .grants-long)) (b .grants), b .grants-long)
 
--- A RUN over records of bytes starts with a fresh desk and zeros
-pub start-fine : (H : Hierarchy) (n : ℕ) → Fine (startOf H n)
-start-fine H n = record { desk = fresh-bounded; values = λ i. omega (arith, zero-at n i) }
+-- A RUN over records of bytes starts with a fresh desk and values that fit eight bytes
+values-fit : (rs : List (List ℕ)) (values : List ℕ) → AllBytes rs → Below 18446744073709551616 values → Below 18446744073709551616 (valuesFrom values rs)
+unfolding valuesFrom
+values-fit [] values b v = v
+values-fit (r ∷ rs) values b v = values-fit rs (withValue values r) (b .1) (by (eqb (kindOf r) 8))
+  where
+    by : (t : Bool) → Below 18446744073709551616 (cond t (set values (valueNodeIn r) (valueIn r)) values)
+    by true = λ i. set-get (λ (k : ℕ). k < 18446744073709551616) values (valueNodeIn r) (valueIn r) i 0 (number-wide r (b .0)) (v i)
+    by false = v
 
-run-most : (H : Hierarchy) (n : ℕ) (rs : List (List ℕ)) → length rs ≤ 3968 → AllBytes rs → length (listing (done (fileRun (performAll (startOf H n) (stepRecords rs))))) ≤ 635680
-run-most H n rs few b =
-    let whole : Ran = performAll (startOf H n) (stepRecords rs) in
-    let steps = keep-few (λ (r : List ℕ). leb 3 (kindOf r)) rs in
-    let all = steps-most (stepRecords rs) (startOf H n) 1 (omega (arith, steps, few)) (steps-bytes rs b) (start-fine H n) in
+pub start-fine : (H : Hierarchy) (rs : List (List ℕ)) → AllBytes rs → Fine (startOf H rs)
+start-fine H rs b = record { desk = fresh-bounded; values = values-fit rs (replicate (H .n) 0) b (λ i. omega (arith, zero-at (H .n) i)) }
+
+run-most : (H : Hierarchy) (rs : List (List ℕ)) → length rs ≤ 3968 → AllBytes rs → length (listing (done (fileRun (performAll (startOf H rs) (stepRecords rs))))) ≤ 635680
+run-most H rs few b =
+    let whole : Ran = performAll (startOf H rs) (stepRecords rs) in
+    let steps = keep-few (λ (r : List ℕ). stepKind (kindOf r)) rs in
+    let all = steps-most (stepRecords rs) (startOf H rs) 1 (omega (arith, steps, few)) (steps-bytes rs b) (start-fine H rs b) in
     let d : Desk = whole .state .desk in
     omega (arith, length-append (stepLines 1 (answersOf whole)) (endLines (holdersAt d) (d .waiting) (d .grants)), all .1, desk-end-most d (all .0 .desk), steps, few)
 
@@ -145,7 +154,7 @@ records-most rs few b = by (refusal (hierarchyChecks (sizeOf rs) (edgeTable rs) 
   where
     by : (o : Option ℕ) → AtMost o → length (listing (runUnless o rs)) ≤ 635680
     by (some k) low = refused-most k low
-    by none low = run-most (builtOf rs) (sizeOf rs) rs few b
+    by none low = run-most (builtOf rs) rs few b
 
 pub listing-most : (file : List ℕ) → Below 256 file → length (listing (runFile file)) ≤ 635680
 unfolding runFile every

@@ -1,25 +1,25 @@
 -- THEOREM: the pieces of a file's listing, one behind the other, are its listing. Assumes nothing.
 use mathlib.Core.Path.{_≡_, refl, sym, ap, subst, _∙_}
-use mathlib.Core.Bool.{Bool, true, false}
+use mathlib.Core.Bool.{Bool, true}
 use mathlib.Core.List.{List, [], _∷_, _++_, append-assoc, append-nil}
 use Prim.Native.Nat.{ℕ, zero, suc, _+_, _-_, _*_, _/_, _≤_, _<_, min}
 use native.Mathlib.Nat.{zero-add, add-zero, suc-add}
 use native.Mathlib.Omega.{arith}
 use lib.Dec.{leb}
-use lib.ListN.{length, take, drop, replicate, length-append, length-take, length-drop, drop-of-length-le}
+use lib.ListN.{length, take, drop, length-append, length-take, length-drop, drop-of-length-le}
 use lib.Seq.{take-at, take-take, take-all, length-take-le, drop-drop}
 use borrow.Author.Tests.{leb-true, leb-false}
-use Rattle.lists.proofs.Loops.{keep-few}
-use Rattle.lists.specs.Lists.{every, keptIf, keep, Below}
+use Rattle.lists.proofs.Loops.{keep-append, keep-few}
+use Rattle.lists.specs.Lists.{every, keep, Below}
 use Rattle.lists.proofs.Bools.{bool, and-left, and-right}
-use Rattle.blocks.specs.Record.{kindOf}
+use Rattle.blocks.specs.Record.{kindOf, stepKind}
 use Rattle.octets.specs.Writes.{overAt}
 use Rattle.block_laws.proofs.Pieces.{bytes-take}
 use Rattle.desk.specs.declared.Desk.{Desk}
 use Rattle.locks.specs.Lent.{Hierarchy, lent}
 use Rattle.desk.specs.Desks.{freshDesk}
 use Rattle.runs.specs.Run.{State, Ran, alsoRan, run}
-use Rattle.replay.specs.Replay.{StepAnswer, answerIn, answersOf, isRecord, performStep, performAll, recordList, stepRecords, holdersAt, startOf, runFile, eachRecord}
+use Rattle.replay.specs.Replay.{StepAnswer, answerIn, answersOf, isRecord, performStep, performAll, recordList, stepRecords, holdersAt, valuesIn, startOf, runFile, eachRecord}
 use Rattle.replay.proofs.Records.{records-length}
 use Rattle.texts.specs.Lines.{stepLine, stepLines, endLines, listing}
 use Rattle.texts.specs.Pages.{Page, pageOf, put}
@@ -37,15 +37,6 @@ shown-all bytes text h =
     ap shown (put-fits bytes text 0 (omega arith)) ∙ take-at bytes (drop (0 + length bytes) text) (0 + length bytes) (sym (zero-add (length bytes)))
 
 -- STEPS one behind the other
-keep-append : {A : Type 0} (p : A → Bool) (xs bs : List A) → keep p (xs ++ bs) ≡ keep p xs ++ keep p bs
-unfolding keep
-keep-append {A} p [] bs = refl
-keep-append {A} p (a ∷ xs) bs = by (p a) (keep-append p xs bs)
-  where
-    by : (t : Bool) → keep p (xs ++ bs) ≡ keep p xs ++ keep p bs → keptIf t a (keep p (xs ++ bs)) ≡ keptIf t a (keep p xs) ++ keep p bs
-    by true e = ap (λ (l : List A). a ∷ l) e
-    by false e = e
-
 abbrev Joins : Ran → Ran → Ran → Type 0
 Joins one two all = (all .state ≡ two .state) × (answersOf all ≡ answersOf one ++ answersOf two)
 
@@ -113,7 +104,7 @@ module _ (w : Written) (part : List (List ℕ)) (few : w .number + length part �
 
   part-fine : Fine (went .state) × (length (stepLines (w .number) (answersOf went)) ≤ length (w .page .text))
   part-fine =
-      let steps = keep-few (λ (r : List ℕ). leb 3 (kindOf r)) part in
+      let steps = keep-few (λ (r : List ℕ). stepKind (kindOf r)) part in
       let most = steps-most (stepRecords part) (w .state) (w .number) (omega (arith, steps, few)) (steps-bytes part b) f in
       (most .0, omega (arith, most .1, steps, fits))
 
@@ -124,7 +115,7 @@ module _ (w : Written) (part : List (List ℕ)) (few : w .number + length part �
   part-text = ap (λ (p : Page). length (p .text)) (comes .1) ∙ (put-within (stepLines (w .number) (answersOf went)) (pageOf (w .page .text) 0) (omega arith)) .1
 
   part-number : after .number ≤ w .number + length part
-  part-number = omega (arith, comes .2, answers-length (stepRecords part) (w .state), keep-few (λ (r : List ℕ). leb 3 (kindOf r)) part)
+  part-number = omega (arith, comes .2, answers-length (stepRecords part) (w .state), keep-few (λ (r : List ℕ). stepKind (kindOf r)) part)
 
 pieces-told : (parts : List (List (List ℕ))) (w : Written) → w .number + length (joined parts) ≤ 18446744073709551615 → every isRecord (joined parts) ≡ true → AllBytes (joined parts)
     → Fine (w .state)
@@ -149,20 +140,20 @@ pieces-told (part ∷ parts) w few right b f long fits =
     ∙ ap (λ (l : List ℕ). stepLines (w .number) (answersOf went₁) ++ l) (more ∙ ap (λ (x : State). told (w₁ .number) (performAll x rest)) (one .0)
     ∙ ap (λ (k : ℕ). told k (performAll (went₁ .state) rest)) (one .2))
     ∙ told-append (w .state) (w .number) (stepRecords part) rest
-    ∙ ap (λ (rs : List (List ℕ)). told (w .number) (performAll (w .state) rs)) (sym (keep-append (λ (r : List ℕ). leb 3 (kindOf r)) part (joined parts)))
+    ∙ ap (λ (rs : List (List ℕ)). told (w .number) (performAll (w .state) rs)) (sym (keep-append (λ (r : List ℕ). stepKind (kindOf r)) part (joined parts)))
 
 -- THE THEOREM: an opened file, its records in any parts that fit the text
 pub pieces-listing : (file : List ℕ) (n count total : ℕ) (records edges places text : List ℕ) (parts : List (List (List ℕ))) → Ready file n count total records edges places → Below 256 records
     → joined parts ≡ recordList (take (16 * total) records) → 800 ≤ length text → Fitting (length text) parts
-    → inPieces (writtenOf (lent n (take (2 * n) places) (take (2 * count) edges) count) (record { desk = freshDesk; number = 1; at = 0 }) (replicate n 0) text) parts ≡ listing (runFile file)
+    → inPieces (writtenOf (lent n (take (2 * n) places) (take (2 * count) edges) count) (record { desk = freshDesk; number = 1; at = 0 }) (valuesIn n (recordList (take (16 * total) records))) text) parts ≡ listing (runFile file)
 pieces-listing file n count total records edges places text parts r b e long fits =
     let H : Hierarchy = lent n (take (2 * n) places) (take (2 * count) edges) count in
     let bytes : List ℕ = take (16 * total) records in
     let few : length (recordList bytes) ≤ 3968 = omega (arith, records-length bytes, length-take (16 * total) records, r .records-most) in
     let each : AllBytes (joined parts) = subst AllBytes (sym e) (each-bytes (length bytes / 16) bytes (bytes-take (16 * total) records b)) in
-    pieces-told parts (writtenOf H (record { desk = freshDesk; number = 1; at = 0 }) (replicate n 0) text) (omega (arith, ap length e, few))
-    (ap (every isRecord) e ∙ r .right) each (start-fine H n) long fits
-    ∙ ap (λ (rs : List (List ℕ)). told 1 (performAll (startOf H n) (stepRecords rs))) e
+    pieces-told parts (writtenOf H (record { desk = freshDesk; number = 1; at = 0 }) (valuesIn n (recordList bytes)) text) (omega (arith, ap length e, few))
+    (ap (every isRecord) e ∙ r .right) each (start-fine H (recordList bytes) (subst AllBytes e each)) long fits
+    ∙ ap (λ (rs : List (List ℕ)). told 1 (performAll (startOf H (recordList bytes)) (stepRecords rs))) e
     ∙ ap listing (sym (r .ran))
 
 -- THE PROGRAM'S PARTS. Of a front that is taken, and of what is behind it
@@ -267,7 +258,7 @@ module _ (bytes : List ℕ) (from : ℕ) where
 
 -- the theorem, of these parts, and a text of 16,000 bytes
 pub program-listing : (file : List ℕ) (n count total : ℕ) (records edges places text : List ℕ) → Ready file n count total records edges places → Below 256 records → 16000 ≤ length text
-    → inPieces (writtenOf (lent n (take (2 * n) places) (take (2 * count) edges) count) (record { desk = freshDesk; number = 1; at = 0 }) (replicate n 0) text) (partsIn (take (16 * total) records))
+    → inPieces (writtenOf (lent n (take (2 * n) places) (take (2 * count) edges) count) (record { desk = freshDesk; number = 1; at = 0 }) (valuesIn n (recordList (take (16 * total) records))) text) (partsIn (take (16 * total) records))
     ≡ listing (runFile file)
 program-listing file n count total records edges places text r b long =
     let bytes : List ℕ = take (16 * total) records in

@@ -4,21 +4,19 @@ use mathlib.Core.Bool.{Bool, true, false, cond}
 use mathlib.Core.List.{List, [], _∷_}
 use Prim.Native.Nat.{ℕ, suc, _+_, _≤_, _<_}
 use native.Mathlib.Omega.{arith}
-use lib.Dec.{leb}
-use lib.ListN.{length, getD, drop, replicate, drop-of-length-le}
-use borrow.Author.Tests.{le-leb, lt-leb}
+use lib.ListN.{length, getD, drop, drop-of-length-le}
 use Rattle.lists.specs.Lists.{every, keptIf, keep}
 use Rattle.lists.proofs.Bools.{and-left, and-right}
 use Rattle.lists.proofs.Loops.{drop-step}
 use Rattle.octets.specs.Bytes.{byte}
-use Rattle.blocks.specs.Record.{kindOf}
+use Rattle.blocks.specs.Record.{kindOf, stepKind}
 use Rattle.desk.specs.declared.Desk.{Desk}
 use Rattle.locks.specs.Lent.{Hierarchy}
 use Rattle.desk.specs.Desks.{freshDesk}
 use Rattle.replay.specs.declared.Step.{Step}
 use Rattle.runs.specs.Run.{State, Ran, alsoRan, run}
 use Rattle.replay.proofs.Outcomes.{performs-state}
-use Rattle.replay.specs.Replay.{StepAnswer, answerIn, answersOf, stateOf, startOf, stepRecords, isRecord, isStep, performStep, Performed, performed, performIf, perform}
+use Rattle.replay.specs.Replay.{StepAnswer, answerIn, answersOf, stateOf, valuesIn, startOf, stepRecords, isRecord, isStep, performStep, Performed, performed, performIf, perform}
 use Rattle.replay.specs.Replay.{performAll, holdersAt}
 use Rattle.replay.specs.Answers.{stepMeaning, Performs}
 use Rattle.lines.specs.declared.Progress.{Progress}
@@ -30,12 +28,12 @@ use Rattle.texts.proofs.Puts.{put-two, put-within}
 
 -- ONE RECORD. One that is no step
 module _ (H : Hierarchy) (p : Progress) (bytes values text : List ℕ) {k : ℕ} (e : k ≡ byte 0 bytes) where
-  pub step-none : k < 3 → writtenOf H p values text ≡ recordWritten (writtenOf H p values text) bytes
+  pub step-none : stepKind k ≡ false → writtenOf H p values text ≡ recordWritten (writtenOf H p values text) bytes
   step-none h =
-      ap (λ (b : Bool). cond b (stepWritten (writtenOf H p values text) bytes) (writtenOf H p values text)) (sym (lt-leb 3 (kindOf bytes) (rw e at h)))
+      ap (λ (b : Bool). cond b (stepWritten (writtenOf H p values text) bytes) (writtenOf H p values text)) (sym (ap stepKind (sym e) ∙ h))
 
   -- and a step
-  pub step-some : {number at′ : ℕ} {values′ text′ : List ℕ} (s : Step) → 3 ≤ k → Performs s values′ (perform (stateOf H (p .desk) values) bytes) → number ≡ following (p .number)
+  pub step-some : {number at′ : ℕ} {values′ text′ : List ℕ} (s : Step) → stepKind k ≡ true → Performs s values′ (perform (stateOf H (p .desk) values) bytes) → number ≡ following (p .number)
       → Puts (p .at) (stepLine (p .number) (stepMeaning (s .outcome) (s .parties))) text text′ at′
       → writtenOf H (record { desk = s .desk; number = number; at = at′ }) values′ text′ ≡ recordWritten (writtenOf H p values text) bytes
   step-some {number} {at′} {values′} {text′} s h f m q =
@@ -46,7 +44,7 @@ module _ (H : Hierarchy) (p : Progress) (bytes values text : List ℕ) {k : ℕ}
       ap (λ (x : State). made x number (pageOf text′ at′)) state
       ∙ ap (λ (x : ℕ). made (done .state) x (pageOf text′ at′)) m
       ∙ ap (made (done .state) (following (p .number))) page
-      ∙ ap (λ (b : Bool). cond b (stepWritten (writtenOf H p values text) bytes) (writtenOf H p values text)) (sym (le-leb 3 (kindOf bytes) (rw e at h)))
+      ∙ ap (λ (b : Bool). cond b (stepWritten (writtenOf H p values text) bytes) (writtenOf H p values text)) (sym (ap stepKind (sym e) ∙ h))
     where
       made : State → ℕ → Page → Written
       made state number page = record { state = state; number = number; page = page }
@@ -67,7 +65,7 @@ pub records-within : (rs : List (List ℕ)) (w : Written) → w .page .at ≤ le
     → (recordsWritten w rs) .page .at ≤ length ((recordsWritten w rs) .page .text)
 unfolding recordsWritten
 records-within [] w h = h
-records-within (r ∷ rs) w h = by (leb 3 (kindOf r)) (λ b. records-within rs (cond b (stepWritten w r) w))
+records-within (r ∷ rs) w h = by (stepKind (kindOf r)) (λ b. records-within rs (cond b (stepWritten w r) w))
   where
     by : (b : Bool) → ((t : Bool) → (cond t (stepWritten w r) w) .page .at ≤ length ((cond t (stepWritten w r) w) .page .text)
         → (recordsWritten (cond t (stepWritten w r) w) rs) .page .at ≤ length ((recordsWritten (cond t (stepWritten w r) w) rs) .page .text))
@@ -90,10 +88,10 @@ written m w = record { state = m .state; number = following (w .number); page = 
 abbrev steadily : Written → List ℕ → Written
 steadily w r = written (performed (performStep (w .state) r)) w
 
-step-right : (w : Written) (r : List ℕ) → isRecord r ≡ true → leb 3 (kindOf r) ≡ true → stepWritten w r ≡ steadily w r
+step-right : (w : Written) (r : List ℕ) → isRecord r ≡ true → stepKind (kindOf r) ≡ true → stepWritten w r ≡ steadily w r
 step-right w r e h = ap (λ (m : Performed). written m w) (performed-right (w .state) r e h)
   where
-    performed-right : (s : State) (x : List ℕ) → isRecord x ≡ true → leb 3 (kindOf x) ≡ true → perform s x ≡ performed (performStep s x)
+    performed-right : (s : State) (x : List ℕ) → isRecord x ≡ true → stepKind (kindOf x) ≡ true → perform s x ≡ performed (performStep s x)
     performed-right s x f g = let e : isStep x ≡ true = rw (f, g) refl in ap (λ (b : Bool). performIf b s x) e
 
 -- THE STEPS of records that are right are those that are performed, and their lines are numbered from the first one's number on
@@ -110,7 +108,7 @@ module _ where
   records-ran w [] h right = (refl, refl, omega arith)
   records-ran w (r ∷ rs) h right =
       let rest = and-right (isRecord r) _ right in
-      by (leb 3 (kindOf r)) refl (records-ran (steadily w r) rs (omega arith) rest) (records-ran w rs (omega arith) rest)
+      by (stepKind (kindOf r)) refl (records-ran (steadily w r) rs (omega arith) rest) (records-ran w rs (omega arith) rest)
     where
       some-ran : Comes (steadily w r) (recordsWritten (steadily w r) rs) (ran (steadily w r) rs) → Comes w (recordsWritten (steadily w r) rs) (performAll (w .state) (r ∷ stepRecords rs))
       some-ran more =
@@ -122,7 +120,7 @@ module _ where
             more .2 ∙ (let e : following (w .number) + length answers ≡ w .number + suc (length answers) = omega (arith, next) in e),
           )
 
-      by : (b : Bool) → leb 3 (kindOf r) ≡ b → Comes (steadily w r) (recordsWritten (steadily w r) rs) (ran (steadily w r) rs) → Comes w (recordsWritten w rs) (ran w rs)
+      by : (b : Bool) → stepKind (kindOf r) ≡ b → Comes (steadily w r) (recordsWritten (steadily w r) rs) (ran (steadily w r) rs) → Comes w (recordsWritten w rs) (ran w rs)
           → Comes w (recordsWritten (cond b (stepWritten w r) w) rs) (performAll (w .state) (keptIf b r (stepRecords rs)))
       by true e more same =
           subst (λ (x : Written). Comes w (recordsWritten x rs) (performAll (w .state) (r ∷ stepRecords rs))) (sym (step-right w r (and-left (isRecord r) _ right) e))
@@ -130,15 +128,15 @@ module _ where
       by false e more same = same
 
 -- A WHOLE RUN: the lines of the steps, and those after them
-module _ (H : Hierarchy) (n : ℕ) (rs : List (List ℕ)) (text : List ℕ) {q start : Progress} {values′ text₁ text₂ : List ℕ} {r : ℕ} where
+module _ (H : Hierarchy) (rs : List (List ℕ)) (text : List ℕ) {q start : Progress} {values′ text₁ text₂ : List ℕ} {r : ℕ} where
   pub run-listed : 1 + length rs ≤ 18446744073709551615 → every isRecord rs ≡ true → start ≡ record { desk = freshDesk; number = 1; at = 0 }
-      → writtenOf H q values′ text₁ ≡ recordsWritten (writtenOf H start (replicate n 0) text) rs
-      → Puts (q .at) (endLines (holdersAt (q .desk)) (q .desk .waiting) (q .desk .grants)) text₁ text₂ r → RunListed (performAll (startOf H n) (stepRecords rs)) text values′ text₂ r
+      → writtenOf H q values′ text₁ ≡ recordsWritten (writtenOf H start (valuesIn (H .n) rs) text) rs
+      → Puts (q .at) (endLines (holdersAt (q .desk)) (q .desk .waiting) (q .desk .grants)) text₁ text₂ r → RunListed (performAll (startOf H rs) (stepRecords rs)) text values′ text₂ r
   run-listed few right s e p =
-      let fresh : Written = writtenOf H (record { desk = freshDesk; number = 1; at = 0 }) (replicate n 0) text in
-      let whole : Ran = performAll (startOf H n) (stepRecords rs) in
+      let fresh : Written = writtenOf H (record { desk = freshDesk; number = 1; at = 0 }) (valuesIn (H .n) rs) text in
+      let whole : Ran = performAll (startOf H rs) (stepRecords rs) in
       let all = records-ran fresh rs few right in
-      let f = e ∙ ap (λ (x : Progress). recordsWritten (writtenOf H x (replicate n 0) text) rs) s in
+      let f = e ∙ ap (λ (x : Progress). recordsWritten (writtenOf H x (valuesIn (H .n) rs) text) rs) s in
       let state = ap (λ (x : Written). x .state) f ∙ all .0 in
       let lines = ap (λ (x : Written). x .page) f ∙ all .1 in
       let end : Desk → List ℕ = λ d. endLines (holdersAt d) (d .waiting) (d .grants) in (

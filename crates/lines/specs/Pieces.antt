@@ -2,9 +2,8 @@
 use mathlib.Core.Bool.{cond}
 use mathlib.Core.List.{List, [], _∷_, _++_}
 use Prim.Native.Nat.{ℕ, zero, suc, _+_, _/_, min}
-use lib.Dec.{leb}
 use lib.ListN.{length, take, drop}
-use Rattle.blocks.specs.Record.{kindOf}
+use Rattle.blocks.specs.Record.{kindOf, stepKind}
 use Rattle.locks.specs.Lent.{Hierarchy}
 use Rattle.runs.specs.Run.{State}
 use Rattle.replay.specs.Replay.{stateOf, perform, holdersAt, recordList}
@@ -35,9 +34,9 @@ stepWritten w r =
       page = put (stepLine (w .number) ((perform (w .state) r) .answer)) (w .page);
     }
 
--- a record of a kind below 3, which is no step's, changes nothing and has no line
+-- a record of a kind that is no step's changes nothing and has no line
 abbrev pub recordWritten : Written → List ℕ → Written
-recordWritten w r = cond (leb 3 (kindOf r)) (stepWritten w r) w
+recordWritten w r = cond (stepKind (kindOf r)) (stepWritten w r) w
 
 -- records one after the other
 unfoldable pub recordsWritten : Written → List (List ℕ) → Written

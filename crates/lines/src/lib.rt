@@ -46,7 +46,7 @@ fn after(number: usize) -> usize
     }
 }
 
-// One record: of a kind below 3, which is no step's, it changes nothing; any other is performed, and its line is put.
+// One record: of a kind that is no step's, it changes nothing; any other is performed, and its line is put.
 fn put_step(
     progress: Progress,
     n: usize,
@@ -60,7 +60,7 @@ fn put_step(
     ensures { λ r. ⌜ writtenOf (lent n (now (intervals .entry)) (now (edges .entry)) «edge_count») r (now (values .exit)) (now (text .exit)) ≡ recordWritten (writtenOf (lent n (now (intervals .entry)) (now (edges .entry)) «edge_count») progress (now (values .entry)) (now (text .entry))) (now (bytes .entry)) ⌝ }
 {
     let desk = progress.desk;
-    if octets::byte(bytes, 0) < 3 {
+    if !blocks::step_kind(octets::byte(bytes, 0)) {
         return Progress {
             desk,
             number: progress.number,
@@ -113,7 +113,7 @@ pub fn put_steps(
     progress
 }
 
-// Runs the steps over a built hierarchy, and puts the lines.
+// Runs the steps over a built hierarchy from the values of the records, and puts the lines.
 fn list_built(
     n: usize,
     intervals: &[u16],
@@ -124,9 +124,10 @@ fn list_built(
     text: &mut [u8],
 ) -> usize
     requires { ⌜ every isRecord (recordList (now records)) ≡ true ⌝ }
-    ensures { λ r. ⌜ RunListed (performAll (startOf (lent n (now (intervals .entry)) (now (edges .entry)) «edge_count») (length (now (values .entry)))) (stepRecords (recordList (now (records .entry))))) (now (text .entry)) (now (values .exit)) (now (text .exit)) r ⌝ }
+    requires { ⌜ length (now values) ≡ n ⌝ }
+    ensures { λ r. ⌜ RunListed (performAll (startOf (lent n (now (intervals .entry)) (now (edges .entry)) «edge_count») (recordList (now (records .entry)))) (stepRecords (recordList (now (records .entry))))) (now (text .entry)) (now (values .exit)) (now (text .exit)) r ⌝ }
 {
-    hierarchy::clear_words(values);
+    replay::values(records, values);
     let start = Progress {
         desk: Desk::fresh(),
         number: 1,

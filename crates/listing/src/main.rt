@@ -4,7 +4,7 @@ ghost use Prim.Native.Nat.{_+_, _*_, _≤_, min};
 ghost use lib.ListN.{length};
 ghost use Rattle.locks.specs.Lent.{lent};
 ghost use Rattle.desk.specs.Desks.{freshDesk};
-ghost use Rattle.replay.specs.Replay.{recordList};
+ghost use Rattle.replay.specs.Replay.{recordList, valuesIn};
 ghost use Rattle.lines.specs.Pieces.{writtenOf, anew, recordsWritten, partsWritten, endWritten, partsIn};
 use blocks::RECORD;
 use desk::Desk;
@@ -147,7 +147,7 @@ fn write_steps(
     Part { progress, written }
 }
 
-// Writes the listing of an open file.
+// Writes the listing of an open file, from the values of its records on.
 fn write_run(
     n: usize,
     intervals: &[u16],
@@ -157,9 +157,10 @@ fn write_run(
     values: &mut [u64],
     text: &mut [u8],
 )
-    ensures { λ _. ⌜ now (values .exit) ≡ (partsWritten (writtenOf (lent n (now (intervals .entry)) (now (edges .entry)) «edge_count») (record { desk = freshDesk; number = 1; at = 0 }) (now (values .entry)) (now (text .entry))) (partsIn (now (records .entry)))) .state .values ⌝ }
-    ensures { λ _. ⌜ now (text .exit) ≡ (endWritten (partsWritten (writtenOf (lent n (now (intervals .entry)) (now (edges .entry)) «edge_count») (record { desk = freshDesk; number = 1; at = 0 }) (now (values .entry)) (now (text .entry))) (partsIn (now (records .entry))))) .text ⌝ }
+    ensures { λ _. ⌜ now (values .exit) ≡ (partsWritten (writtenOf (lent n (now (intervals .entry)) (now (edges .entry)) «edge_count») (record { desk = freshDesk; number = 1; at = 0 }) (valuesIn (length (now (values .entry))) (recordList (now (records .entry)))) (now (text .entry))) (partsIn (now (records .entry)))) .state .values ⌝ }
+    ensures { λ _. ⌜ now (text .exit) ≡ (endWritten (partsWritten (writtenOf (lent n (now (intervals .entry)) (now (edges .entry)) «edge_count») (record { desk = freshDesk; number = 1; at = 0 }) (valuesIn (length (now (values .entry))) (recordList (now (records .entry)))) (now (text .entry))) (partsIn (now (records .entry))))) .text ⌝ }
 {
+    replay::values(records, values);
     let steps = write_steps(n, intervals, edges, edge_count, records, values, text);
     let progress = steps.progress;
     let desk = progress.desk;

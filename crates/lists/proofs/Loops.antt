@@ -13,8 +13,8 @@ use native.Mathlib.Omega.{arith}
 use borrow.Author.Fill.{fill-more}
 use lib.ListN.{length, getD, take, drop, set, replicate, length-set, drop-of-length-le, length-map}
 use lib.Seq.{take-suc, drop-cons, drop-length, take-at, length-take-le}
-use Rattle.lists.specs.Lists.{one, every, any, count, keep, sum}
-use Rattle.lists.proofs.Bools.{bool}
+use Rattle.lists.specs.Lists.{one, keptIf, every, any, count, keep, sum}
+use Rattle.lists.proofs.Bools.{bool, and-left, and-right}
 
 -- the length of an array that is a field, from what owning the struct tells: `search (field-length, needs)`
 pub field-length : {A B : Type 0} (f : A → B) (l : List A) (n : ℕ) → length (map f l) ≡ n → length l ≡ n
@@ -48,6 +48,33 @@ module _ {A : Type 0} where
   pub every-end : (p : A → Bool) (l : List A) (i : ℕ) {r : Bool} → every p (drop i l) ≡ r → length l ≤ i → true ≡ r
   unfolding every
   every-end p l i inv h = rw (drop-of-length-le l h) at inv
+
+  -- what holds of every element holds of the one at a place
+  pub every-at : (p : A → Bool) (l : List A) (i : ℕ) (d : A) → every p l ≡ true → i < length l → p (getD l i d) ≡ true
+  unfolding every
+  every-at p [] i d e h = absurd (not-suc-le-zero h)
+  every-at p (x ∷ l) zero d e h = and-left (p x) (every p l) e
+  every-at p (x ∷ l) (suc i) d e h = every-at p l i d (and-right (p x) (every p l) e) (le-of-suc-le-suc h)
+
+  -- what is kept of a list and another behind it
+  pub keep-append : (p : A → Bool) (xs ys : List A) → keep p (xs ++ ys) ≡ keep p xs ++ keep p ys
+  unfolding keep
+  keep-append p [] ys = refl
+  keep-append p (x ∷ xs) ys = by (p x) (keep-append p xs ys)
+    where
+      by : (t : Bool) → keep p (xs ++ ys) ≡ keep p xs ++ keep p ys → keptIf t x (keep p (xs ++ ys)) ≡ keptIf t x (keep p xs) ++ keep p ys
+      by true e = ap (λ (l : List A). x ∷ l) e
+      by false e = e
+
+  -- how many are kept
+  pub keep-count : (p : A → Bool) (xs : List A) → length (keep p xs) ≡ count p xs
+  unfolding keep count
+  keep-count p [] = refl
+  keep-count p (x ∷ xs) = by (p x) (keep-count p xs)
+    where
+      by : (b : Bool) → length (keep p xs) ≡ count p xs → length (keptIf b x (keep p xs)) ≡ one b + count p xs
+      by true e = omega arith
+      by false e = omega arith
 
   -- a test of some element, with the invariant `any p (drop i l) ≡ r`
   pub any-stop : (p : A → Bool) (l : List A) (i : ℕ) (d : A) {x : A} {r : Bool} → any p (drop i l) ≡ r → getD l i d ≡ x → p x ≡ true → i < length l → true ≡ r

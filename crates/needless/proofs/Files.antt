@@ -3,9 +3,8 @@ use mathlib.Core.Path.{_≡_, refl, sym, ap, _∙_}
 use mathlib.Core.List.{List, _∷_}
 use mathlib.Core.Bool.{true}
 use mathlib.Core.Option.{Option, none, some}
-use Prim.Native.Nat.{ℕ, zero, suc, _*_, _≤_}
-use native.Mathlib.Omega.{arith}
-use lib.ListN.{take, replicate}
+use Prim.Native.Nat.{ℕ, _*_}
+use lib.ListN.{take}
 use Rattle.lists.specs.Answer.{refused, refusal}
 use Rattle.lists.proofs.Bools.{not-both}
 use Rattle.hierarchy.specs.Hierarchy.{hierarchyChecks}
@@ -32,20 +31,13 @@ refused-waits file k e = by (refusal (fileChecks file)) e
 
 -- OPENED. The waits of the steps, from what opening left in its places
 pub opened-waits : (file : List ℕ) (n count total : ℕ) (records edges places : List ℕ) → Ready file n count total records edges places
-    → waitsOfSteps (startOf (lent n (take (2 * n) places) (take (2 * count) edges) count) n) nothingNamed (stepRecords (recordList (take (16 * total) records))) ≡ waitsOf file
+    → waitsOfSteps (startOf (lent n (take (2 * n) places) (take (2 * count) edges) count) (recordList (take (16 * total) records))) nothingNamed (stepRecords (recordList (take (16 * total) records))) ≡ waitsOf file
 unfolding waitsOf waitsOfRecords
 opened-waits file n count total records edges places r =
-    ap (λ (H : Hierarchy). over H n (take (16 * total) records)) (r .built)
-    ∙ ap (λ (m : ℕ). over (builtOf (fileRows file)) m (take (16 * total) records)) (r .size)
-    ∙ ap (over (builtOf (fileRows file)) (sizeOf (fileRows file))) (r .read)
+    ap (λ (H : Hierarchy). over H (take (16 * total) records)) (r .built)
+    ∙ ap (over (builtOf (fileRows file))) (r .read)
     ∙ ap (λ (o : Option ℕ). recordsUnless o (fileRows file)) (sym (r .built-fine))
     ∙ ap (λ (o : Option ℕ). waitsUnless o file) (sym (r .file-fine))
   where
-    over : Hierarchy → ℕ → List ℕ → Waits
-    over H m bytes = waitsOfSteps (startOf H m) nothingNamed (stepRecords (recordList bytes))
-
--- zeros, as many as are taken
-pub zeros-taken : (n m : ℕ) → n ≤ m → _≡_ {A = List ℕ} (take n (replicate m 0)) (replicate n 0)
-zeros-taken zero m h = refl
-zeros-taken (suc n) zero h = absurd (omega arith)
-zeros-taken (suc n) (suc m) h = ap (λ (l : List ℕ). 0 ∷ l) (zeros-taken n m (omega arith))
+    over : Hierarchy → List ℕ → Waits
+    over H bytes = waitsOfSteps (startOf H (recordList bytes)) nothingNamed (stepRecords (recordList bytes))

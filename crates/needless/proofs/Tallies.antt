@@ -2,23 +2,20 @@
 use mathlib.Core.Path.{_≡_, refl, sym, ap, _∙_}
 use mathlib.Core.List.{List, [], _∷_}
 use mathlib.Core.Bool.{Bool, true, false, not}
-use Prim.Native.Nat.{ℕ, zero, suc, _+_, _≤_, _<_}
+use Prim.Native.Nat.{ℕ, _+_, _≤_, _<_}
 use native.Mathlib.Omega.{arith}
-use lib.Dec.{leb}
 use lib.ListN.{length, getD, drop, replicate, drop-of-length-le}
-use borrow.Author.Tests.{le-leb, lt-leb}
-use Rattle.lists.specs.Lists.{one, every, keptIf, keep}
-use Rattle.lists.proofs.Bools.{and-left, and-right}
+use Rattle.lists.specs.Lists.{one, keptIf, keep}
 use Rattle.lists.proofs.Loops.{drop-step, keep-few}
 use Rattle.hierarchy.specs.Hierarchy.{edgesOf}
 use Rattle.octets.specs.Bytes.{byte}
-use Rattle.blocks.specs.Record.{kindOf, partyIn, modeIn, namesIn}
+use Rattle.blocks.specs.Record.{kindOf, partyIn, modeIn, namesIn, stepKind}
 use Rattle.locks.specs.Locks.{modeNumbered}
 use Rattle.locks.specs.Lent.{Hierarchy}
 use Rattle.runs.specs.Run.{State}
 use Rattle.replay.specs.declared.Outcome.{Outcome}
 use Rattle.replay.specs.declared.Step.{Step}
-use Rattle.replay.specs.Replay.{StepAnswer, granted, waits, value, stored, added, left, refused, stateOf, startOf, stepRecords}
+use Rattle.replay.specs.Replay.{StepAnswer, granted, waits, value, stored, added, left, refused, stateOf, valuesIn, startOf, stepRecords}
 use Rattle.replay.specs.Replay.{isRecord, isStep, performStep, Performed, performed, performIf, perform}
 use Rattle.replay.specs.Answers.{outcomeOf, Performs}
 use Rattle.replay.proofs.Outcomes.{performs-state}
@@ -75,20 +72,20 @@ answer-called sets r (refused number) named called c = c
 
 module _ (H : Hierarchy) (sets bytes : List ℕ) (p : Progress) (values called : List ℕ) {k : ℕ} (e : k ≡ byte 0 bytes) (named : List (List ℕ)) (c : Called sets named called) where
   -- one that is no step
-  pub record-none : k < 3 → Counted H sets bytes p values named p values called
+  pub record-none : stepKind k ≡ false → Counted H sets bytes p values named p values called
   unfolding keep
   record-none h =
       record {
         named′ = named;
         called-for = c;
-        left = λ rs. ap (λ (b : Bool). plus (p .waits) (waitsOfSteps (stateOf H (p .desk) values) named (keptIf b bytes (stepRecords rs)))) (sym (lt-leb 3 (kindOf bytes) (rw e at h)));
+        left = λ rs. ap (λ (b : Bool). plus (p .waits) (waitsOfSteps (stateOf H (p .desk) values) named (keptIf b bytes (stepRecords rs)))) (sym (ap stepKind (sym e) ∙ h));
       }
 
   -- and a step
-  module _ (h : 3 ≤ k) (right : isRecord bytes ≡ true) (fine : Sets (H .n) (edgesOf (H .edges) (H .edgeCount)) sets) (s : Step) {values′ : List ℕ}
+  module _ (h : stepKind k ≡ true) (right : isRecord bytes ≡ true) (fine : Sets (H .n) (edgesOf (H .edges) (H .edgeCount)) sets) (s : Step) {values′ : List ℕ}
       (f : Performs s values′ (perform (stateOf H (p .desk) values) bytes)) where
-    is-step : leb 3 (kindOf bytes) ≡ true
-    is-step = le-leb 3 (kindOf bytes) (rw e at h)
+    is-step : stepKind (kindOf bytes) ≡ true
+    is-step = ap stepKind (sym e) ∙ h
 
     abbrev made : Performed
     made = performed (performStep (stateOf H (p .desk) values) bytes)
@@ -148,23 +145,16 @@ steps-few s named (r ∷ rs) =
     let g = steps-few (m .state) (namedAfter r (m .answer) named) rs in
     (omega (arith, f .0, g .0), omega (arith, f .1, g .1))
 
--- what holds of each record holds of the one at a place
-pub record-at : (p : List ℕ → Bool) (rs : List (List ℕ)) (i : ℕ) → every p rs ≡ true → i < length rs → p (getD rs i []) ≡ true
-unfolding every
-record-at p [] i e h = absurd (omega arith)
-record-at p (r ∷ rs) zero e h = and-left (p r) (every p rs) e
-record-at p (r ∷ rs) (suc i) e h = record-at p rs i (and-right (p r) (every p rs) e) (omega arith)
-
 -- between two records, of all of them
 pub record Counting (H : Hierarchy) (sets : List ℕ) (rs : List (List ℕ)) (values₀ : List ℕ) (i : ℕ) (p : Progress) (values called : List ℕ) : Type 0 where
   pub so-far : i ≤ length rs
   pub values-long : length values ≡ length values₀
   pub named : List (List ℕ)
   pub called-for : Called sets named called
-  pub rest : waitsLeft H p values named (drop i rs) ≡ waitsOfSteps (startOf H (H .n)) nothingNamed (stepRecords rs)
+  pub rest : waitsLeft H p values named (drop i rs) ≡ waitsOfSteps (startOf H rs) nothingNamed (stepRecords rs)
 
 module _ (H : Hierarchy) (sets : List ℕ) (rs : List (List ℕ)) (values₀ : List ℕ) where
-  pub counting-start : (p : Progress) (called : List ℕ) → p ≡ record { desk = (startOf H (H .n)) .desk; waits = noWaits } → values₀ ≡ replicate (H .n) 0 → called ≡ replicate 128 0
+  pub counting-start : (p : Progress) (called : List ℕ) → p ≡ record { desk = (startOf H rs) .desk; waits = noWaits } → values₀ ≡ valuesIn (H .n) rs → called ≡ replicate 128 0
       → Counting H sets rs values₀ 0 p values₀ called
   counting-start p called e v g =
       record {
@@ -172,15 +162,15 @@ module _ (H : Hierarchy) (sets : List ℕ) (rs : List (List ℕ)) (values₀ : L
         values-long = refl;
         named = nothingNamed;
         called-for = rw g (called-start sets);
-        rest = rw (e, v) (none-plus (waitsOfSteps (startOf H (H .n)) nothingNamed (stepRecords rs)));
+        rest = rw (e, v) (none-plus (waitsOfSteps (startOf H rs) nothingNamed (stepRecords rs)));
       }
 
   module _ (i : ℕ) (p : Progress) (values called : List ℕ) (k : Counting H sets rs values₀ i p values called) where
     -- no count passes that of the records
     pub counting-few : (p .waits .all ≤ length rs) × (p .waits .needless ≤ length rs)
     counting-few =
-        let f = steps-few (startOf H (H .n)) nothingNamed (stepRecords rs) in
-        let n = keep-few (λ r. leb 3 (kindOf r)) rs in
+        let f = steps-few (startOf H rs) nothingNamed (stepRecords rs) in
+        let n = keep-few (λ r. stepKind (kindOf r)) rs in
         (omega (arith, ap (λ (w : Waits). w .all) (k .rest), f .0, n), omega (arith, ap (λ (w : Waits). w .needless) (k .rest), f .1, n))
 
     pub counting-more : i < length rs → {bytes : List ℕ} → getD rs i [] ≡ bytes → (p′ : Progress) (values′ called′ : List ℕ) → length values′ ≡ length values
@@ -195,7 +185,7 @@ module _ (H : Hierarchy) (sets : List ℕ) (rs : List (List ℕ)) (values₀ : L
           rest = d .left (drop (i + 1) rs) ∙ ap (waitsLeft H p values (k .named)) (sym (drop-step rs i [] at h)) ∙ k .rest;
         }
 
-    pub counting-end : length rs ≤ i → p .waits ≡ waitsOfSteps (startOf H (H .n)) nothingNamed (stepRecords rs)
+    pub counting-end : length rs ≤ i → p .waits ≡ waitsOfSteps (startOf H rs) nothingNamed (stepRecords rs)
     unfolding keep waitsOfSteps
     counting-end h =
         sym (plus-none (p .waits)) ∙ ap (waitsLeft H p values (k .named)) (sym (drop-of-length-le rs {i = i} h)) ∙ k .rest

@@ -106,7 +106,7 @@ waitsOfSteps s named (r ∷ rs) =
 -- a hierarchy that is refused counts as no wait
 abbrev pub recordsUnless : Option ℕ → List (List ℕ) → Waits
 recordsUnless (some k) rs = noWaits
-recordsUnless none rs = waitsOfSteps (startOf (builtOf rs) (sizeOf rs)) nothingNamed (stepRecords rs)
+recordsUnless none rs = waitsOfSteps (startOf (builtOf rs) rs) nothingNamed (stepRecords rs)
 
 -- of a file's records
 unfoldable pub waitsOfRecords : List (List ℕ) → Waits

@@ -9,7 +9,7 @@ ghost use Rattle.blocks.specs.Record.{partyIn, modeIn, namesIn};
 ghost use Rattle.locks.specs.Locks.{modeNumbered};
 ghost use Rattle.locks.specs.Lent.{lent};
 ghost use Rattle.reach_sets.specs.Sets.{callSet};
-ghost use Rattle.replay.specs.Replay.{recordList, isRecord, stepRecords, startOf};
+ghost use Rattle.replay.specs.Replay.{recordList, isRecord, stepRecords, valuesIn, startOf};
 ghost use Rattle.needless.specs.Waits.{noWaits, nothingNamed, plus, waitsOfSteps, waitsOf};
 ghost use Rattle.needless.specs.Inner.{here, modeOf, setInWay, someInWay, visits, waited, waitsIf, calledAfter, Counts, Sets, Countable};
 use arrivals::PARTIES;
@@ -182,7 +182,7 @@ fn no_waits() -> Waits
     }
 }
 
-// One record: of a kind below 3, which is no step's, it changes nothing; any other is performed, and counted where it waits.
+// One record: of a kind that is no step's, it changes nothing; any other is performed, and counted where it waits.
 fn count_step(
     progress: Progress,
     n: usize,
@@ -200,7 +200,7 @@ fn count_step(
 {
     let desk = progress.desk;
     let so_far = progress.waits;
-    if octets::byte(bytes, 0) < 3 {
+    if !blocks::step_kind(octets::byte(bytes, 0)) {
         return Progress {
             desk,
             waits: so_far,
@@ -231,8 +231,8 @@ fn count_steps(
     requires { ⌜ every isRecord (recordList (now records)) ≡ true ⌝ }
     requires { ⌜ Sets n (edgesOf (now edges) «edge_count») (now sets) ⌝ }
     requires { ⌜ now called ≡ replicate 128 0 ⌝ }
-    requires { ⌜ now values ≡ replicate n 0 ⌝ }
-    ensures { λ r. ⌜ r ≡ waitsOfSteps (startOf (lent n (now (intervals .entry)) (now (edges .entry)) «edge_count») n) nothingNamed (stepRecords (recordList (now (records .entry)))) ⌝ }
+    requires { ⌜ now values ≡ valuesIn n (recordList (now records)) ⌝ }
+    ensures { λ r. ⌜ r ≡ waitsOfSteps (startOf (lent n (now (intervals .entry)) (now (edges .entry)) «edge_count») (recordList (now (records .entry)))) nothingNamed (stepRecords (recordList (now (records .entry)))) ⌝ }
 {
     let total = records.len() / RECORD;
     let mut progress = Progress {
@@ -259,6 +259,36 @@ fn count_steps(
     progress.waits
 }
 
+// All records, from a fresh desk and the values of the records on.
+fn count_records(
+    n: usize,
+    intervals: &[u16],
+    edges: &[u16],
+    edge_count: usize,
+    sets: &[u64],
+    records: &[u8],
+    values: &mut [u64],
+    called: &mut [u64],
+) -> Waits
+    requires { ⌜ every isRecord (recordList (now records)) ≡ true ⌝ }
+    requires { ⌜ Sets n (edgesOf (now edges) «edge_count») (now sets) ⌝ }
+    requires { ⌜ now called ≡ replicate 128 0 ⌝ }
+    requires { ⌜ length (now values) ≡ n ⌝ }
+    ensures { λ r. ⌜ r ≡ waitsOfSteps (startOf (lent n (now (intervals .entry)) (now (edges .entry)) «edge_count») (recordList (now (records .entry)))) nothingNamed (stepRecords (recordList (now (records .entry)))) ⌝ }
+{
+    replay::values(records, values);
+    count_steps(
+        n,
+        intervals,
+        edges,
+        edge_count,
+        sets,
+        records,
+        values,
+        called,
+    )
+}
+
 // Works out the reaches of a built hierarchy, and counts.
 fn count_built(
     n: usize,
@@ -268,14 +298,14 @@ fn count_built(
     records: &[u8],
 ) -> Waits
     requires { ⌜ Countable n «edge_count» (now edges) (now records) ⌝ }
-    ensures { λ r. ⌜ r ≡ waitsOfSteps (startOf (lent n (now (intervals .entry)) (now (edges .entry)) «edge_count») n) nothingNamed (stepRecords (recordList (now (records .entry)))) ⌝ }
+    ensures { λ r. ⌜ r ≡ waitsOfSteps (startOf (lent n (now (intervals .entry)) (now (edges .entry)) «edge_count») (recordList (now (records .entry)))) nothingNamed (stepRecords (recordList (now (records .entry)))) ⌝ }
 {
     let mut sets = [0u64; reach_sets::WORDS];
     let words = 4 * n;
     reach_sets::sets(n, edges, edge_count, &mut sets[..words]);
     let mut values = [0u64; hierarchy::NODES];
     let mut called = [0u64; 128];
-    count_steps(
+    count_records(
         n,
         intervals,
         edges,
@@ -298,7 +328,7 @@ fn count_opened(
 ) -> Waits
     requires { ⌜ (2 * n ≤ length (now places)) × (2 * «edge_count» ≤ length (now edges)) × (16 * total ≤ length (now records)) ⌝ }
     requires { ⌜ Countable n «edge_count» (take (2 * «edge_count») (now edges)) (take (16 * total) (now records)) ⌝ }
-    ensures { λ r. ⌜ r ≡ waitsOfSteps (startOf (lent n (take (2 * n) (now (places .entry))) (take (2 * «edge_count») (now (edges .entry))) «edge_count») n) nothingNamed (stepRecords (recordList (take (16 * total) (now (records .entry))))) ⌝ }
+    ensures { λ r. ⌜ r ≡ waitsOfSteps (startOf (lent n (take (2 * n) (now (places .entry))) (take (2 * «edge_count») (now (edges .entry))) «edge_count») (recordList (take (16 * total) (now (records .entry))))) nothingNamed (stepRecords (recordList (take (16 * total) (now (records .entry))))) ⌝ }
 {
     let low = 2 * n;
     let ends = 2 * edge_count;

@@ -88,7 +88,7 @@ records-told rs = by (refusal (hierarchyChecks (sizeOf rs) (edgeTable rs) (edgeC
     by : (x : Option ℕ) → Told (runUnless x rs) (recordsUnless x rs)
     by (some k) = refl
     by none =
-        let s : State = startOf (builtOf rs) (sizeOf rs) in
+        let s : State = startOf (builtOf rs) rs in
         (steps-all (stepRecords rs) s nothingNamed, steps-most (stepRecords rs) s nothingNamed)
 
 file-told : (file : List ℕ) → Told (runFile file) (waitsOf file)
@@ -113,4 +113,4 @@ waits-most file = by (runFile file) (file-told file)
 
 -- where every step record names one node, refused or not, each visit does (a get, put, add or leave record that is right names none)
 pub plain-each : (rs : List (List ℕ)) → every (λ r. oneNode (namesIn r)) (stepRecords rs) ≡ true → OneEach rs
-plain-each rs o = steps-one (stepRecords rs) (startOf (builtOf rs) (sizeOf rs)) o
+plain-each rs o = steps-one (stepRecords rs) (startOf (builtOf rs) rs) o

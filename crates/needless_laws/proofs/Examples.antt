@@ -8,7 +8,7 @@ use Rattle.intervals.specs.Numbering.{meet, visit, inside, walk, numbering}
 use Rattle.intervals.specs.Intervals.{numbersAmong, lowOf, highOf, intervalsFrom, intervalTable}
 use Rattle.intervals.specs.Cover.{closest}
 use Rattle.octets.specs.Fletcher.{words, sums, fletcher}
-use Rattle.blocks.specs.Record.{enterRight, kinds, rowIn, recordRight, inOrder}
+use Rattle.blocks.specs.Record.{enterRight, kinds, rowIn, valueRight, recordRight}
 use Rattle.blocks.specs.Block.{afterRecord, afterRecords, countRight, headRight, afterBlock, recordsIn, blockBody, blockOf}
 use Rattle.blocks.specs.File.{afterBlocks, recordsOf, notBlocks, blocksOf}
 use Rattle.naming.specs.Names.{insert, insertAll, risesFrom}
@@ -16,7 +16,7 @@ use Rattle.parties.specs.Sound.{soundParties}
 use Rattle.sweeps.specs.Sweeps.{offer, sweep}
 use Rattle.desk.specs.Steps.{enterStep, getStep, putStep, addStep, leaveStep}
 use Rattle.runs.specs.Run.{lend, restored, lentTo, afterEnter, afterGet, afterPut, afterAdd, listed, afterLeave, moveCall, move}
-use Rattle.replay.specs.Replay.{eachRecord, edgeTable}
+use Rattle.replay.specs.Replay.{eachRecord, edgeTable, valuesFrom}
 use Rattle.trees.specs.Tree.{parentCount}
 use Rattle.needless.specs.Waits.{waitsOfSteps, waitsOfRecords, waitsOf}
 use Rattle.examples.specs.Cases.{sameNumbers}
@@ -28,7 +28,7 @@ use Rattle.needless_laws.specs.Figures.{four, figures}
 pub all-figures : every right figures ≡ true
 unfolding allBelow anyBelow every any keep count over foldFrom least greatest refusal children someEdge spread spreads reach edgeTwice
     someUnreached meet visit inside walk numbering numbersAmong lowOf highOf intervalsFrom intervalTable closest words sums
-    fletcher enterRight kinds rowIn recordRight inOrder afterRecord afterRecords countRight headRight afterBlock recordsIn blockBody blockOf afterBlocks
-    recordsOf notBlocks blocksOf insert insertAll risesFrom soundParties enterStep getStep putStep addStep offer sweep leaveStep eachRecord edgeTable lend restored lentTo afterEnter afterGet afterPut afterAdd listed afterLeave
+    fletcher enterRight kinds rowIn valueRight recordRight afterRecord afterRecords countRight headRight afterBlock recordsIn blockBody blockOf afterBlocks
+    recordsOf notBlocks blocksOf insert insertAll risesFrom soundParties enterStep getStep putStep addStep offer sweep leaveStep eachRecord edgeTable valuesFrom lend restored lentTo afterEnter afterGet afterPut afterAdd listed afterLeave
     moveCall move parentCount waitsOfSteps waitsOfRecords waitsOf visitsNameOne four sameNumbers right fileT fileShared figures
 all-figures = refl

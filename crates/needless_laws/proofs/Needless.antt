@@ -33,7 +33,7 @@ use Rattle.runs.proofs.Runs.{move-hierarchy}
 use Rattle.history.proofs.Facts.{all-out, sweep-length}
 use Rattle.soundness.proofs.Laws.{unchanged-get, unchanged-put, unchanged-add}
 use Rattle.replay.specs.Replay.{StepAnswer, enterLine, getLine, putLine, addLine, enterCall, getCall, putCall, addCall, leaveCall, callOf, stepOf, stateOf, Performed, performed, performStep, performAll, freshScratch}
-use Rattle.replay.specs.Replay.{recordList, sizeOf, edgeTable, edgeCountOf, stepRecords, builtOf, startOf}
+use Rattle.replay.specs.Replay.{recordList, sizeOf, edgeTable, edgeCountOf, stepRecords, builtOf, valuesIn, startOf}
 use Rattle.replay.proofs.Records.{edge-table-length}
 use Rattle.replay.proofs.Outcomes.{call-3, call-4, call-5, call-6, call-7, performs-call}
 use Rattle.trees.specs.Tree.{oneParentEach}
@@ -219,8 +219,8 @@ steps-needless (r ∷ rs) s named built known o =
 
 -- A FILE'S RECORDS. Where each visit names one node, each lock has the interval of its one name when all steps are done (and so after each: the records up to it)
 pub records-known : (rs : List (List ℕ)) → OneEach rs
-    → Known ((performAll (startOf (builtOf rs) (sizeOf rs)) (stepRecords rs)) .state) (namedAfterSteps (startOf (builtOf rs) (sizeOf rs)) nothingNamed (stepRecords rs))
-records-known rs o = steps-known (stepRecords rs) (startOf (builtOf rs) (sizeOf rs)) nothingNamed (start-known (builtOf rs) (replicate (sizeOf rs) 0)) o
+    → Known ((performAll (startOf (builtOf rs) rs) (stepRecords rs)) .state) (namedAfterSteps (startOf (builtOf rs) rs) nothingNamed (stepRecords rs))
+records-known rs o = steps-known (stepRecords rs) (startOf (builtOf rs) rs) nothingNamed (start-known (builtOf rs) (valuesIn (sizeOf rs) rs)) o
 
 -- and over a tree no wait is needless
 pub records-needless : (rs : List (List ℕ)) → oneParentEach (sizeOf rs) (edgesOf (edgeTable rs) (edgeCountOf rs)) ≡ true → OneEach rs → (waitsOfRecords rs) .needless ≡ 0
@@ -238,7 +238,7 @@ records-needless rs each o = by (refusal (hierarchyChecks (sizeOf rs) (edgeTable
     by : (x : Option ℕ) → refusal (hierarchyChecks (sizeOf rs) (edgeTable rs) (edgeCountOf rs)) ≡ x → (recordsUnless x rs) .needless ≡ 0
     by (some k) e = refl
     by none e =
-        steps-needless (stepRecords rs) (startOf (builtOf rs) (sizeOf rs)) nothingNamed (built e) (start-known (builtOf rs) (replicate (sizeOf rs) 0)) o
+        steps-needless (stepRecords rs) (startOf (builtOf rs) rs) nothingNamed (built e) (start-known (builtOf rs) (valuesIn (sizeOf rs) rs)) o
 
 -- THE THEOREM: of a file in whose hierarchy each node but the root has exactly one parent, and each visit of which names one node, no wait is needless
 pub file-needless : (file : List ℕ) → let rs = recordList (fileRecords file) in

@@ -17,7 +17,7 @@ use Rattle.needless_laws.specs.Visits.{visitsNameOne}
 unfoldable pub four : List (List ℕ) → Waits → List ℕ
 four rs w =
     one (oneParentEach (sizeOf rs) (edgesOf (edgeTable rs) (edgeCountOf rs)))
-    ∷ one (visitsNameOne (startOf (builtOf rs) (sizeOf rs)) (stepRecords rs))
+    ∷ one (visitsNameOne (startOf (builtOf rs) rs) (stepRecords rs))
     ∷ w .all
     ∷ w .needless
     ∷ []

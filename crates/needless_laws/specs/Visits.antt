@@ -8,7 +8,7 @@ use Rattle.lists.specs.Lists.{anyBelow, every}
 use Rattle.hierarchy.specs.Hierarchy.{flagged, reach}
 use Rattle.blocks.specs.Record.{namesIn}
 use Rattle.runs.specs.Run.{State}
-use Rattle.replay.specs.Replay.{StepAnswer, performed, performStep, sizeOf, stepRecords, builtOf, startOf}
+use Rattle.replay.specs.Replay.{StepAnswer, performed, performStep, stepRecords, builtOf, startOf}
 use Rattle.needless.specs.Waits.{makesVisit, namedAfter}
 
 -- ONE NODE. The names are one node; a name given twice counts once. Without a name, which enter refuses, nothing is asked
@@ -27,7 +27,7 @@ visitsNameOne s (r ∷ rs) = visitsOne ((performed (performStep s r)) .answer) (
 
 -- each visit of a file's records names one node
 abbrev pub OneEach : List (List ℕ) → Type 0
-OneEach rs = visitsNameOne (startOf (builtOf rs) (sizeOf rs)) (stepRecords rs) ≡ true
+OneEach rs = visitsNameOne (startOf (builtOf rs) rs) (stepRecords rs) ≡ true
 
 -- WHAT THE PARTIES HAVE NAMED after the step records
 unfoldable pub namedAfterSteps : State → List (List ℕ) → List (List ℕ) → List (List ℕ)

@@ -1,6 +1,6 @@
 -- Numbers in bytes, low byte first throughout, and bytes that are zero. Assumes nothing.
 use mathlib.Core.Bool.{Bool}
-use mathlib.Core.List.{List, [], _∷_}
+use mathlib.Core.List.{List, [], _∷_, _++_}
 use Prim.Native.Nat.{ℕ, _+_, _*_, _/_, _%_}
 use lib.Dec.{eqb}
 use lib.ListN.{getD, take, drop}
@@ -29,6 +29,10 @@ bytes2 x = x % 256 ∷ x / 256 ∷ []
 -- a number as four bytes
 abbrev pub bytes4 : ℕ → List ℕ
 bytes4 x = x % 256 ∷ x / 256 % 256 ∷ x / 65536 % 256 ∷ x / 16777216 ∷ []
+
+-- a number as eight bytes
+abbrev pub bytes8 : ℕ → List ℕ
+bytes8 x = bytes4 (x % 4294967296) ++ bytes4 (x / 4294967296)
 
 -- the bytes from a place on are zero
 abbrev pub zeroFrom : ℕ → List ℕ → Bool

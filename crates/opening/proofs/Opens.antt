@@ -23,7 +23,8 @@ use Rattle.hierarchy.proofs.Legals.{right-size}
 use Rattle.interval_laws.proofs.Laws.{built-length}
 use Rattle.blocks.specs.declared.ReadAnswer.{ReadAnswer}
 use Rattle.blocks.specs.declared.ReadAnswer.the-variants.{Records, Refused as ReadRefused}
-use Rattle.blocks.specs.Record.{kindOf}
+use Rattle.blocks.specs.declared.ReadStage.{ReadStage}
+use Rattle.blocks.specs.Record.{kindOf, begun}
 use Rattle.blocks.specs.Block.{afterRecord, afterRecords}
 use Rattle.blocks.specs.File.{wholeBlocks, notBlocks, fileChecks, fileRecords, readRefusal, readFile, readMeaning}
 use Rattle.blocks.proofs.Answers.{blocks-facts}
@@ -51,13 +52,13 @@ records-whole file e =
     (whole .0, whole .1)
 
 -- and each of them is right
-rows-right : (k stage : ℕ) (s : List ℕ) → 16 * k ≤ length s → afterRecords stage k s ≤ 2 → every isRecord (eachRecord k s) ≡ true
+rows-right : (k : ℕ) (t : ReadStage) (s : List ℕ) → 16 * k ≤ length s → (afterRecords t k s) .wrong ≡ 0 → every isRecord (eachRecord k s) ≡ true
 unfolding eachRecord every
-rows-right zero stage s l h = refl
-rows-right (suc k) stage s l h =
-    let first = record-right k stage s h in
+rows-right zero t s l h = refl
+rows-right (suc k) t s l h =
+    let first = record-right k t s h in
     let long : length (take 16 s) ≡ 16 = length-take-le 16 s (omega arith) in
-    rw (eq-eqb (length (take 16 s)) 16 long, first .0, rows-right k (afterRecord stage (take 16 s)) (drop 16 s) (omega (arith, length-drop 16 s)) (first .1)) refl
+    rw (eq-eqb (length (take 16 s)) 16 long, first .0, rows-right k (afterRecord t (take 16 s)) (drop 16 s) (omega (arith, length-drop 16 s)) (first .1)) refl
 
 records-right : (file : List ℕ) → refusal (fileChecks file) ≡ none → every isRecord (fileRows file) ≡ true
 unfolding readFile
@@ -66,7 +67,7 @@ records-right file e =
     let long = length-replicate {A = ℕ} (496 * wholeBlocks file) 0 in
     let read = refused-later (1 when ltb (length room) (496 * wholeBlocks file)) (fileChecks file) (le-ltb (length room) (496 * wholeBlocks file) (omega (arith, long))) ∙ e in
     let n : ℕ = length (fileRecords file) / 16 in
-    rows-right n 0 (fileRecords file) (omega arith) (read-stage file room n (ap (λ (o : Option ℕ). answerOf o n) read))
+    rows-right n begun (fileRecords file) (omega arith) (read-stage file room n (ap (λ (o : Option ℕ). answerOf o n) read))
 
 -- ANSWERS: one that is a refusal comes from one
 refused-by : {A : Type 0} (o : Option ℕ) (a : A) {k : ℕ} → answerOf o a ≡ refused k → o ≡ some k
@@ -74,12 +75,12 @@ refused-by none a e = let z : _≡_ {A = ℕ} 0 1 = cc in absurd (omega arith)
 refused-by (some j) a e = cc
 
 -- and one that is none from none
-done-by : {A : Type 0} (o : Option ℕ) (a : A) {x : A} → answerOf o a ≡ done x → (o ≡ none) × (a ≡ x)
+pub done-by : {A : Type 0} (o : Option ℕ) (a : A) {x : A} → answerOf o a ≡ done x → (o ≡ none) × (a ≡ x)
 done-by none a e = (refl, cc)
 done-by (some j) a e = let z : _≡_ {A = ℕ} 0 1 = cc in absurd (omega arith)
 
 -- TWO LISTS OF CHECKS, one behind the other
-refusal-front : (cs ds : List Check) {k : ℕ} → refusal cs ≡ some k → refusal (cs ++ ds) ≡ some k
+pub refusal-front : (cs ds : List Check) {k : ℕ} → refusal cs ≡ some k → refusal (cs ++ ds) ≡ some k
 unfolding refusal
 refusal-front [] ds e = let z : _≡_ {A = ℕ} 0 1 = cc in absurd (omega arith)
 refusal-front (c ∷ cs) ds e =
@@ -87,7 +88,7 @@ refusal-front (c ∷ cs) ds e =
     (λ h. refused-here c (cs ++ ds) h ∙ sym (refused-here c cs h) ∙ e)
     (λ h. refused-later c (cs ++ ds) h ∙ refusal-front cs ds (sym (refused-later c cs h) ∙ e))
 
-refusal-past : (cs ds : List Check) → refusal cs ≡ none → refusal (cs ++ ds) ≡ refusal ds
+pub refusal-past : (cs ds : List Check) → refusal cs ≡ none → refusal (cs ++ ds) ≡ refusal ds
 unfolding refusal
 refusal-past [] ds e = refl
 refusal-past (c ∷ cs) ds e =
@@ -369,7 +370,11 @@ module _ (file records edges places : List ℕ) (a : OpenAnswer) {records′ edg
   unfolding openFile
   judge = e .answer ∙ ap (λ (o : Option ℕ). answerOf o (openingIn file)) right
 
-  -- refused: so is the run
+  -- refused, as a file or as a hierarchy
+  pub opened-turned : (k : ℕ) → a ≡ Refused k → refusal (fileChecks file ++ builtChecks (fileRows file)) ≡ some k
+  opened-turned k t = refused-whole file a judge k t
+
+  -- and so is the run
   pub opened-refused : (k : ℕ) → a ≡ Refused k → runFile file ≡ refused k
   unfolding runFile runRecords
   opened-refused k t = by (readingRefusal file) refl
@@ -417,10 +422,10 @@ module _ (file records edges places : List ℕ) (a : OpenAnswer) {records′ edg
         ∙ ap (λ (m : ℕ). lent m (intervalTable (sizeOf (fileRows file)) (edgeTable (fileRows file))) (edgeTable (fileRows file)) count) (sym size-is)
         ∙ ap (lent (sizeOf (fileRows file)) (intervalTable (sizeOf (fileRows file)) (edgeTable (fileRows file))) (edgeTable (fileRows file))) (sym edges-are)
 
-    abbrev runOver : Hierarchy → ℕ → List ℕ → Answer FileRun
-    runOver H m bytes = done (fileRun (performAll (startOf H m) (stepRecords (recordList bytes))))
+    abbrev runOver : Hierarchy → List ℕ → Answer FileRun
+    runOver H bytes = done (fileRun (performAll (startOf H (recordList bytes)) (stepRecords (recordList bytes))))
 
-    runs : runFile file ≡ runOver (builtOf (fileRows file)) (sizeOf (fileRows file)) (fileRecords file)
+    runs : runFile file ≡ runOver (builtOf (fileRows file)) (fileRecords file)
     unfolding runFile runRecords
     runs =
         ap (λ (o : Option ℕ). fileUnless o file) (file-right file a judge n count total t)
@@ -431,9 +436,8 @@ module _ (file records edges places : List ℕ) (a : OpenAnswer) {records′ edg
         let size = right-size (sizeOf (fileRows file)) ((refusal-none _ (built-right file a judge n count total t)) .0) in
         record {
           ran = runs
-              ∙ ap (λ (H : Hierarchy). runOver H (sizeOf (fileRows file)) (fileRecords file)) (sym same)
-              ∙ ap (λ (m : ℕ). runOver (lent n (take (2 * n) places′) (take (2 * count) edges′) count) m (fileRecords file)) size-is
-              ∙ ap (runOver (lent n (take (2 * n) places′) (take (2 * count) edges′) count) n) (sym records-front);
+              ∙ ap (λ (H : Hierarchy). runOver H (fileRecords file)) (sym same)
+              ∙ ap (runOver (lent n (take (2 * n) places′) (take (2 * count) edges′) count)) (sym records-front);
           n-most = omega (arith, size .1, size-is);
           edges-most = few-edges file a judge n count total t;
           records-most = few-records file a judge n count total t;

@@ -78,4 +78,5 @@ pub record Opens (r : OpenAnswer) (records edges places : List ℕ) (s : OpenRes
 -- the run of an opened file, from what opening left in its places
 abbrev pub openedRun : ℕ → List ℕ → List ℕ → ℕ → List ℕ → ℕ → Ran
 openedRun n places edges edgeCount records total =
-    performAll (startOf (lent n (take (2 * n) places) (take (2 * edgeCount) edges) edgeCount) n) (stepRecords (recordList (take (16 * total) records)))
+    performAll (startOf (lent n (take (2 * n) places) (take (2 * edgeCount) edges) edgeCount) (recordList (take (16 * total) records)))
+    (stepRecords (recordList (take (16 * total) records)))

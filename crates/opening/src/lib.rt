@@ -1,9 +1,10 @@
 // Opening a file: its records, its edge table and its intervals into lent places.
 ghost use mathlib.Core.Path.{_≡_};
-ghost use Prim.Native.Nat.{_*_, _≤_};
+ghost use Prim.Native.Nat.{_*_, _/_, _≤_};
 ghost use lib.ListN.{length};
-ghost use Rattle.lists.specs.Lists.{over};
-ghost use Rattle.replay.specs.Replay.{recordList};
+ghost use Rattle.lists.specs.Lists.{one, over};
+ghost use Rattle.blocks.specs.Record.{kindOf, stepKind};
+ghost use Rattle.replay.specs.Replay.{recordList, stepRecords};
 ghost use Rattle.opening.specs.Opening.{openFile, Opens};
 ghost use Rattle.opening.specs.Inner.{HierarchyOpened, RecordsOpened, FileOpened};
 use blocks::RECORD;
@@ -144,4 +145,30 @@ pub fn open_run(
         return OpenAnswer::Refused(2);
     }
     open_apart(file, records, edges, places)
+}
+
+// 1 where a record is a step, and 0 where it is not.
+fn one_step(bytes: &[u8]) -> usize
+    ensures { λ r. ⌜ r ≡ one (stepKind (kindOf (now (bytes .entry)))) ⌝ }
+{
+    if blocks::step_kind(octets::byte(bytes, 0)) {
+        return 1;
+    }
+    0
+}
+
+// How many steps there are.
+pub fn step_count(records: &[u8]) -> usize
+    ensures { λ r. ⌜ (r ≡ length (stepRecords (recordList (now (records .entry))))) × (r ≤ length (now (records .entry)) / 16) ⌝ }
+{
+    let total = records.len() / RECORD;
+    let mut count = 0;
+    let mut i = 0;
+    while i < total {
+        let from = RECORD * i;
+        let to = from + RECORD;
+        count += one_step(&records[from..to]);
+        i += 1;
+    }
+    count
 }

@@ -8,7 +8,7 @@ use Rattle.lists.specs.Lists.{anyBelow, any}
 use Rattle.locks.specs.declared.Lock.{Lock}
 use Rattle.locks.specs.declared.Stage.{Stage}
 use Rattle.locks.specs.declared.Stage.the-variants.{Out}
-use Rattle.locks.specs.Stages.{againstHolder, againstWaiter}
+use Rattle.locks.specs.Stages.{isOut, againstHolder, againstWaiter}
 use Rattle.parties.specs.declared.Entry.{Entry}
 
 -- the entry of a party at a stage
@@ -18,6 +18,10 @@ entryOf stage = record { stage = stage }
 -- the stage of a party in the entries; parties are 0 to 31, and any other is out
 abbrev pub stageIn : List Entry → ℕ → Stage
 stageIn entries party = (getD entries party (entryOf Out)) .stage
+
+-- some party holds or waits
+abbrev pub someoneIn : List Entry → Bool
+someoneIn entries = anyBelow 32 (λ party. not (isOut (stageIn entries party)))
 
 -- the place of a party's entry; that of party 0 for a party over 31
 abbrev pub placeOf : ℕ → ℕ

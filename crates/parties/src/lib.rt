@@ -8,7 +8,7 @@ ghost use Rattle.locks.specs.declared.Lock as L;
 ghost use Rattle.locks.specs.Locks.{lockNumbered};
 ghost use Rattle.locks.specs.Stages.{isWaiting};
 ghost use Rattle.locks.specs.Lent.{spanned, intervalWrong};
-ghost use Rattle.parties.specs.Parties.{stageIn, meetsHolder, isFree, placeOf, seatedAt};
+ghost use Rattle.parties.specs.Parties.{stageIn, meetsHolder, isFree, placeOf, seatedAt, someoneIn};
 ghost use Rattle.parties.specs.Sound.{isListed, listsParties, listsOnce, holdersApart, waitersHeldUp, soundParties};
 ghost use Rattle.parties.specs.Inner.{rowOf, putRow, meetsRow, rowsApart, withHold, afterHold, withCall, heldBy, HoldsOf, Gathered};
 use arrivals::Listed;
@@ -59,6 +59,22 @@ pub fn stage(entries: [Entry; PARTIES], party: usize) -> Stage
         return e.stage;
     }
     Stage::Out
+}
+
+// Whether some party holds or waits.
+pub fn someone_in(entries: [Entry; PARTIES]) -> bool
+    ensures { λ r. ⌜ r ≡ someoneIn entries ⌝ }
+{
+    let mut i = 0;
+    while i < PARTIES {
+        let e = entries[i];
+        let s = e.stage;
+        if !locks::is_out(s) {
+            return true;
+        }
+        i += 1;
+    }
+    false
 }
 
 // Whether a lock conflicts with no holder and no waiter.

@@ -1,23 +1,25 @@
 -- Records one behind the other: how many there are, and the bytes of one; the edge table, record by record. Assumes nothing.
 use mathlib.Core.Path.{_≡_, refl, sym, ap, _∙_}
+use mathlib.Core.Logic.{_≢_}
 use mathlib.Core.List.{List, [], _∷_, _++_}
-use mathlib.Core.Bool.{Bool, true, false}
+use mathlib.Core.Bool.{Bool, true, false, cond}
 use Prim.Native.Nat.{ℕ, zero, suc, _+_, _-_, _*_, _/_, _<_, _≤_, min}
 use native.Mathlib.Nat.{not-suc-le-zero, add-zero, zero-add}
 use native.Mathlib.Numerals.{add-one}
 use native.Mathlib.Omega.{arith}
 use lib.Dec.{eqb, ltb}
-use lib.ListN.{length, getD, take, drop, set, length-append, length-take, length-drop, drop-of-length-le}
-use lib.Seq.{getD-take, getD-drop, drop-drop, sets-eq}
+use lib.ListN.{length, getD, take, drop, set, length-append, length-take, length-drop, length-set, drop-of-length-le}
+use borrow.Author.Tests.{ne-eqb}
+use lib.Seq.{set-out, getD-take, getD-drop, drop-drop, sets-eq}
 use Rattle.lists.specs.Lists.{count, one, over}
 use Rattle.lists.specs.Answer.{_when_, refusal}
 use Rattle.lists.proofs.Loops.{drop-step}
 use Rattle.octets.specs.Bytes.{byte, number2}
-use Rattle.blocks.specs.Record.{kindOf, parentIn, childIn, nameCountIn, namesIn}
+use Rattle.blocks.specs.Record.{kindOf, parentIn, childIn, nameCountIn, namesIn, valueNodeIn, valueIn}
 use Rattle.octets.specs.Writes.{overAt}
 use Rattle.octets.proofs.Writes.{over-over, over-none, over-turn}
 use Rattle.locks.proofs.Tables.{half-ltb}
-use Rattle.replay.specs.Replay.{eachRecord, recordList, sizeOf, edgeIf, edgeTable, edgeCountOf}
+use Rattle.replay.specs.Replay.{eachRecord, recordList, sizeOf, edgeIf, edgeTable, edgeCountOf, withValue, valuesFrom}
 use Rattle.replay.specs.declared.EdgesAnswer.the-variants.{Edges, Refused as EdgesRefused}
 use Rattle.replay.specs.Answers.{edgesRefusal, EdgesInto, edgesInto}
 use Rattle.replay.specs.Inner.{recordAt, edgeOf}
@@ -93,6 +95,41 @@ table-end l i at table h = rw (drop-of-length-le l h) (sym (over-none table at))
 -- the kind of a record
 pub record-kind : (bytes : List ℕ) (i : ℕ) → kindOf (recordAt bytes i) ≡ byte (16 * i) bytes
 record-kind bytes i = record-byte bytes i 0 (omega arith) ∙ ap (λ (k : ℕ). byte k bytes) (add-zero (16 * i))
+
+-- THE VALUES, record by record
+pub with-length : (values r : List ℕ) → length (withValue values r) ≡ length values
+with-length values r = by (eqb (kindOf r) 8)
+  where
+    by : (b : Bool) → length (cond b (set values (valueNodeIn r) (valueIn r)) values) ≡ length values
+    by true = length-set values (valueNodeIn r) (valueIn r)
+    by false = refl
+
+-- a value record sets its node's place, if there is one, and no other record does
+module _ (values r : List ℕ) where
+  pub with-put : kindOf r ≡ 8 → withValue values r ≡ set values (valueNodeIn r) (valueIn r)
+  with-put e = ap (λ (k : ℕ). cond (eqb k 8) (set values (valueNodeIn r) (valueIn r)) values) e
+
+  pub with-out : kindOf r ≡ 8 → length values ≤ valueNodeIn r → withValue values r ≡ values
+  with-out e h = with-put e ∙ set-out values (valueNodeIn r) (valueIn r) h
+
+  pub with-none : kindOf r ≢ 8 → withValue values r ≡ values
+  with-none h = ap (λ (b : Bool). cond b (set values (valueNodeIn r) (valueIn r)) values) (ne-eqb (kindOf r) 8 h)
+
+pub values-length : (rs : List (List ℕ)) (values : List ℕ) → length (valuesFrom values rs) ≡ length values
+unfolding valuesFrom
+values-length [] values = refl
+values-length (r ∷ rs) values = values-length rs (withValue values r) ∙ with-length values r
+
+pub values-turn : (bytes : List ℕ) (i : ℕ) (values : List ℕ) {whole : List ℕ} → i < length bytes / 16 → valuesFrom values (drop i (recordList bytes)) ≡ whole
+    → valuesFrom (withValue values (take (16 * i + 16 - 16 * i) (drop (16 * i) bytes))) (drop (i + 1) (recordList bytes)) ≡ whole
+unfolding valuesFrom
+values-turn bytes i values h inv =
+    let w : 16 * i + 16 - 16 * i ≡ 16 = omega arith in
+    rw w (ap (valuesFrom values) (sym (drop-step (recordList bytes) i [] (records-at bytes i h) (omega (arith, records-length bytes)))) ∙ inv)
+
+pub values-end : (bytes : List ℕ) (i : ℕ) (values : List ℕ) {whole : List ℕ} → length bytes / 16 ≤ i → valuesFrom values (drop i (recordList bytes)) ≡ whole → values ≡ whole
+unfolding valuesFrom
+values-end bytes i values h inv = let past : length (recordList bytes) ≤ i = omega (arith, records-length bytes) in ap (valuesFrom values) (sym (drop-of-length-le (recordList bytes) past)) ∙ inv
 
 -- n is that of the first record
 size-of : (k : ℕ) (bytes : List ℕ) → 1 ≤ k → sizeOf (eachRecord k bytes) ≡ number2 1 bytes

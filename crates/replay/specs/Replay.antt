@@ -3,13 +3,13 @@ use mathlib.Core.List.{List, [], _∷_, map}
 use mathlib.Core.Bool.{Bool, true, false, cond, _&&_}
 use mathlib.Core.Option.{Option, none, some}
 use Prim.Native.Nat.{ℕ, zero, suc, _/_}
-use lib.Dec.{eqb, leb}
-use lib.ListN.{length, take, drop, replicate}
+use lib.Dec.{eqb}
+use lib.ListN.{length, take, drop, set, replicate}
 use Rattle.lists.specs.Lists.{keep, count}
 use Rattle.lists.specs.Answer.{Answer, done, refused as denied, refusal}
 use Rattle.hierarchy.specs.Hierarchy.{hierarchyChecks}
 use Rattle.intervals.specs.Intervals.{intervalTable}
-use Rattle.blocks.specs.Record.{kindOf, sizeIn, parentIn, childIn, partyIn, modeIn, nameCountIn, namesIn, nodeIn, valueIn, recordRight}
+use Rattle.blocks.specs.Record.{kindOf, sizeIn, parentIn, childIn, partyIn, modeIn, nameCountIn, namesIn, nodeIn, valueNodeIn, valueIn, recordRight, stepKind}
 use Rattle.blocks.specs.File.{fileChecks, fileRecords}
 use Rattle.desk.specs.declared.Desk.{Desk}
 use Rattle.locks.specs.Locks.{modeNumbered}
@@ -47,9 +47,9 @@ edgeTable (r ∷ rs) = edgeIf (eqb (kindOf r) 2) (parentIn r) (childIn r) (edgeT
 abbrev pub edgeCountOf : List (List ℕ) → ℕ
 edgeCountOf rs = count (λ r. eqb (kindOf r) 2) rs
 
--- the steps, in their order: the records of a kind from 3 on, which reading knows to be right
+-- the steps, in their order: the records of a step's kind, which reading knows to be right; a value record is none
 abbrev pub stepRecords : List (List ℕ) → List (List ℕ)
-stepRecords rs = keep (λ r. leb 3 (kindOf r)) rs
+stepRecords rs = keep (λ r. stepKind (kindOf r)) rs
 
 -- the hierarchy as it is lent to each step, with the intervals that building writes
 abbrev pub builtOf : List (List ℕ) → Hierarchy
@@ -145,7 +145,7 @@ isRecord r = eqb (length r) 16 && recordRight r
 
 -- and a step
 abbrev pub isStep : List ℕ → Bool
-isStep r = isRecord r && leb 3 (kindOf r)
+isStep r = isRecord r && stepKind (kindOf r)
 
 -- a step record performed
 abbrev pub performStep : State → List ℕ → Moved
@@ -169,7 +169,7 @@ performIf false s r = record { state = s; answer = refused 4 }
 abbrev pub perform : State → List ℕ → Performed
 perform s r = performIf (isStep r) s r
 
--- A WHOLE FILE. The step records one after the other
+-- A WHOLE FILE. Its step records one after the other
 abbrev pub performAll : State → List (List ℕ) → Ran
 performAll s rs = run (map stepOf rs) s
 
@@ -177,9 +177,22 @@ performAll s rs = run (map stepOf rs) s
 abbrev pub answersOf : Ran → List StepAnswer
 answersOf ran = map answerIn (ran .events)
 
--- a file starts from a fresh desk and n values of zero
-abbrev pub startOf : Hierarchy → ℕ → State
-startOf H n = start H (replicate n 0)
+-- the values with that of a value record in its node's place, or as they are
+abbrev pub withValue : List ℕ → List ℕ → List ℕ
+withValue values r = cond (eqb (kindOf r) 8) (set values (valueNodeIn r) (valueIn r)) values
+
+-- the values after the value records, one after the other
+unfoldable pub valuesFrom : List ℕ → List (List ℕ) → List ℕ
+valuesFrom values [] = values
+valuesFrom values (r ∷ rs) = valuesFrom (withValue values r) rs
+
+-- n values: those of the value records, zero where none is given
+abbrev pub valuesIn : ℕ → List (List ℕ) → List ℕ
+valuesIn n rs = valuesFrom (replicate n 0) rs
+
+-- a file starts from a fresh desk and its values
+abbrev pub startOf : Hierarchy → List (List ℕ) → State
+startOf H rs = start H (valuesIn (H .n) rs)
 
 -- the count of holders
 abbrev pub holdersAt : Desk → ℕ
@@ -201,7 +214,7 @@ fileRun ran =
 -- a refused hierarchy gives its number: 5 to 9
 abbrev pub runUnless : Option ℕ → List (List ℕ) → Answer FileRun
 runUnless (some k) rs = denied k
-runUnless none rs = done (fileRun (performAll (startOf (builtOf rs) (sizeOf rs)) (stepRecords rs)))
+runUnless none rs = done (fileRun (performAll (startOf (builtOf rs) rs) (stepRecords rs)))
 
 -- what running the records of a file answers
 unfoldable pub runRecords : List (List ℕ) → Answer FileRun

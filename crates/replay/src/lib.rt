@@ -1,4 +1,4 @@
-// A file's records as a hierarchy and steps: n, the edge table, and one step record performed on the desk.
+// A file's records as a hierarchy, values and steps: n, the edge table, the values at the start, and one step record performed on the desk.
 ghost use mathlib.Core.Path.{_≡_};
 ghost use Prim.Native.Nat.{_+_, _*_, _≤_};
 ghost use lib.ListN.{length};
@@ -8,7 +8,7 @@ ghost use Rattle.octets.specs.Writes.{overAt};
 ghost use Rattle.blocks.specs.Record.{kindOf, namesIn};
 ghost use Rattle.locks.specs.Lent.{lent};
 ghost use Rattle.desk.specs.Answers.{enterMeaning, getMeaning, putMeaning, addMeaning, leaveMeaning};
-ghost use Rattle.replay.specs.Replay.{recordList, sizeOf, edgeTable, edgeCountOf, enterLine, getLine, putLine, addLine, enterCall, getCall, putCall, addCall, leaveCall, stateOf, isStep, perform as performing};
+ghost use Rattle.replay.specs.Replay.{recordList, sizeOf, edgeTable, edgeCountOf, enterLine, getLine, putLine, addLine, enterCall, getCall, putCall, addCall, leaveCall, stateOf, isStep, withValue, valuesIn, perform as performing};
 ghost use Rattle.replay.specs.Answers.{EdgesInto, edgesInto, outcomeOf, Performs};
 ghost use Rattle.replay.specs.Inner.{recordAt, edgeOf, leftOutcome, PerformsCall, PerformsAny};
 use arrivals::PARTIES;
@@ -116,6 +116,35 @@ pub fn edges(records: &[u8], table: &mut [u16]) -> EdgesAnswer
     }
     put_edges(records, table);
     EdgesAnswer::Edges(count)
+}
+
+// Puts the value of a value record into its node's place, if there is one; any other record changes nothing.
+fn put_value(bytes: &[u8], places: &mut [u64])
+    ensures { λ _. ⌜ now (places .exit) ≡ withValue (now (places .entry)) (now (bytes .entry)) ⌝ }
+{
+    let kind = octets::byte(bytes, 0);
+    let node = octets::byte(bytes, 1) as usize;
+    let given = octets::number8(bytes, 4);
+    if kind == 8 {
+        if node < places.len() {
+            places[node] = given;
+        }
+    }
+}
+
+// The values that a run starts from, as many as there are places: those of the value records, zero where none is given.
+pub fn values(records: &[u8], places: &mut [u64])
+    ensures { λ _. ⌜ now (places .exit) ≡ valuesIn (length (now (places .entry))) (recordList (now (records .entry))) ⌝ }
+{
+    hierarchy::clear_words(places);
+    let total = records.len() / RECORD;
+    let mut i = 0;
+    while i < total {
+        let from = RECORD * i;
+        let to = from + RECORD;
+        put_value(&records[from..to], places);
+        i += 1;
+    }
 }
 
 // A byte as a wider number.
@@ -392,7 +421,7 @@ fn is_step(bytes: &[u8]) -> bool
     if !blocks::record_right(bytes) {
         return false;
     }
-    3 <= octets::byte(bytes, 0)
+    blocks::step_kind(octets::byte(bytes, 0))
 }
 
 // Any bytes performed on the desk as a record of a file: refused with 4 where they are no step, or one that is not right; else by kind, 3 enter, 4 get,

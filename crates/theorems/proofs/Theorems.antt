@@ -1,26 +1,27 @@
 -- THE THEOREMS OF THE DESK, in full, in the order of the customer's demands. Each is proved by citing the one that a crate below proves: with a hypothesis
--- more or a clause less there it would no longer fit. Some of points 4, 5, 6 and 8 no crate below states: they follow here, in a few lines, from laws and definitions below.
+-- more or a clause less there it would no longer fit. Some of points 4, 5, 6, 8 and 9 no crate below states: they follow here, in a few lines, from laws and definitions below.
 -- What the terms mean is in the definitions, crates/*/specs; what each function does is its contract, in crates/*/src, where demand 1 is carried: no public
 -- function has a `requires`, and each result is equated with a definition. Assumes nothing.
 use mathlib.Core.Path.{_≡_, refl, sym, ap, subst, _∙_}
 use mathlib.Core.Logic.{_⊎_, inl, inr}
 use mathlib.Core.List.{List, [], _∷_, _++_, map}
 use mathlib.Core.Bool.{Bool, true, false, not, cond, and-false}
-use mathlib.Core.Option.{none}
+use mathlib.Core.Option.{Option, none, some}
 use Prim.Native.Nat.{ℕ, zero, suc, _+_, _*_, _%_, _^_, _≤_, _<_, min, max}
 use native.Mathlib.Omega.{arith}
-use lib.Dec.{eqb, ltb}
+use lib.Dec.{eqb, leb, ltb}
 use borrow.Author.Tests.{lt-ltb, le-leb, eqb-false, eq-eqb, ne-eqb, not-true, not-false}
-use lib.ListN.{length, getD, set, take, replicate}
-use Rattle.lists.specs.Lists.{every, any, count, sum, over, Below}
-use Rattle.lists.specs.Answer.{done, refused, refusal}
-use Rattle.hierarchy.specs.Hierarchy.{edgesOf, Edge, Reach, reach, Legal}
+use lib.ListN.{length, getD, set, take, drop, replicate}
+use Rattle.lists.specs.Lists.{anyBelow, every, any, keep, count, sum, over, Below}
+use Rattle.lists.specs.Answer.{done, refused, _when_, refusal}
+use Rattle.hierarchy.specs.Hierarchy.{edgesOf, Edge, Reach, reach, hierarchyChecks, Legal}
 use Rattle.intervals.specs.Numbering.{numbering}
 use Rattle.intervals.specs.Intervals.{lowOf, highOf, intervalTable}
 use Rattle.intervals.specs.Build.{buildStep}
 use Rattle.intervals.specs.declared.Interval.{Interval}
 use Rattle.intervals.specs.Cover.{lowAt, highAt, intervalAt, callInterval, contains, width, closest, coverOf}
-use Rattle.blocks.specs.File.{wholeBlocks, readFile, writeFile}
+use Rattle.blocks.specs.Record.{kindOf}
+use Rattle.blocks.specs.File.{wholeBlocks, fileChecks, leaving, readFile, blocksFor, writeFile}
 use Rattle.locks.specs.declared.Mode.{Mode}
 use Rattle.locks.specs.declared.Mode.the-variants.{Reading, Writing, Adding}
 use Rattle.locks.specs.declared.Lock.{Lock}
@@ -50,8 +51,9 @@ use Rattle.fairness.specs.AnySteps.{AnyStep, enterWith, moveAny, runAny, HostCa
 use Rattle.fairness.specs.Ahead.{isPresent, ahead, frontOf, inFront, others, isLeave, isEnter, hasLeft, allLeft, visitLeft}
 use Rattle.fairness.specs.Rules.{Rules, paperRules, newcomersPass, fromTheBack, onlyHolders, enterBy, runBy}
 use Rattle.file_laws.specs.Files.{eventsOf}
-use Rattle.replay.specs.Replay.{waits, stored, left, FileRun, granted as admitted, refused as denied, recordList, stepRecords, sizeOf, edgeTable, edgeCountOf, answersOf}
-use Rattle.replay.specs.Replay.{performAll, runFile}
+use Rattle.replay.specs.Replay.{waits, stored, left, FileRun, granted as admitted, refused as denied, recordList, stepRecords, sizeOf, edgeTable, edgeCountOf, builtOf, valuesIn, startOf, answersOf}
+use Rattle.replay.specs.Replay.{holdersAt, fileRun, performAll, runFile}
+use Rattle.cutting.specs.Cut.{valueRecords, cutRecords, cutRefusal, blocksOfAll, cutFile}
 use Rattle.blocks.specs.File.{fileRecords}
 use Rattle.examples.specs.Cases.{intervals, cover, apart, listing, withGrants, passes}
 use Rattle.examples.specs.Table.{T, shared, bytes16, fileT, fileShared, starred}
@@ -94,7 +96,7 @@ use Rattle.fairness.proofs.Hosts as hosts
 use Rattle.fairness.proofs.Shams as shams
 use Rattle.opening.specs.declared.OpenAnswer.the-variants.{Opened}
 use Rattle.opening.specs.Opening.{openFile}
-use Rattle.texts.specs.Lines.{stepLines, endLine, partyLine, partyLines, listing as listingOf}
+use Rattle.texts.specs.Lines.{stepLines, endLine, partyLine, partyLines, endLines, listing as listingOf}
 use Rattle.lines.specs.Pieces.{writtenOf, inPieces, partsIn}
 use Rattle.opening.proofs.Opens as opens
 use Rattle.lines.proofs.Fits as fits
@@ -105,6 +107,9 @@ use Rattle.needless.proofs.Files as reports
 use Rattle.needless_laws.proofs.Counts as counts
 use Rattle.needless_laws.proofs.Meets as meets
 use Rattle.needless_laws.proofs.Needless as none-needless
+use Rattle.shorter_laws.proofs.Cuts as shorter-parts
+use Rattle.shorter_laws.proofs.Laws as cuts
+use Rattle.shorter_laws.proofs.Serials as cut-serials
 use Rattle.examples.proofs.Starred as computed
 
 -- DEMAND 1, as far as it is not a contract: a refusal changes nothing (but the scratch of a search: point 6 below). Of enter, the desk
@@ -301,7 +306,7 @@ listing-most = fits.listing-most
 -- and the lines of an opened file's records, 100 at a time into 16,000 bytes (the parts that main.rt takes), are one behind the other the listing, to the byte
 program-listing : (file records edges places text : List ℕ) (n count total : ℕ) → 63488 ≤ length records → 7936 ≤ length edges → 512 ≤ length places → 16000 ≤ length text
     → let o = openFile file records edges places in o .answer ≡ done (record { n = n; edges = count; records = total }) → Below 256 (o .records)
-    → inPieces (writtenOf (lent n (take (2 * n) (o .places)) (take (2 * count) (o .edges)) count) (record { desk = freshDesk; number = 1; at = 0 }) (replicate n 0) text)
+    → inPieces (writtenOf (lent n (take (2 * n) (o .places)) (take (2 * count) (o .edges)) count) (record { desk = freshDesk; number = 1; at = 0 }) (valuesIn n (recordList (take (16 * total) (o .records)))) text)
     (partsIn (take (16 * total) (o .records)))
     ≡ listingOf (runFile file)
 program-listing file records edges places text n count total l₁ l₂ l₃ long e bytes =
@@ -446,9 +451,9 @@ run-made H values sized steps =
     let m = results.run-made H values sized steps in
     (m .0, all-back H freshDesk values (m .0) (m .1), sym (ap (λ (x : Ran). x .events) (m .2)), sym (ap (λ (x : Ran). x .state .desk) (m .2)), sym (ap (λ (x : Ran). x .state .values) (m .2)))
 
--- and of a file: where it is not refused, of its step records and the answers in its listing, from n zeros
+-- and of a file: where it is not refused, of its step records and the answers in its listing, from its n values: those of its value records, zero where none is given
 file-serial : (file : List ℕ) (ran : FileRun) → runFile file ≡ done ran
-    → let records = recordList (fileRecords file) in Claims (replicate (sizeOf records) 0) (eventsOf (stepRecords records) (ran .answers)) (ran .values)
+    → let records = recordList (fileRecords file) in Claims (valuesIn (sizeOf records) records) (eventsOf (stepRecords records) (ran .answers)) (ran .values)
 file-serial file ran e = claims (files.file-serial file ran e)
 
 -- none of its steps is lost there: the events told from step records and answers are those of the run of these records
@@ -1009,6 +1014,80 @@ paper-passes-nobody = shams.paper-passes-nobody
 -- and it is false of a desk that lets newcomers pass waiters that they conflict with, of one that takes the waiters from the back, and, by the paper's rules, where only the holders count as ahead
 others-pass-over : (PassesNobody newcomersPass ahead → ⊥) × (PassesNobody fromTheBack ahead → ⊥) × (PassesNobody paperRules onlyHolders → ⊥)
 others-pass-over = (shams.newcomers-pass-over, shams.back-passes-over, shams.only-holders-pass-over)
+
+-- 02, POINT 9. NINETY DAYS, THEN SHORTER FILES. A file that has no value record starts from zeros, as before,
+no-values-zeros : (n : ℕ) (records : List (List ℕ)) → every (λ r. not (eqb (kindOf r) 8)) records ≡ true → valuesIn n records ≡ replicate n 0
+no-values-zeros n records none-of = shorter-parts.values-none records (replicate n 0) none-of
+
+-- cutting is refused with 1 where the room is shorter than the file, with what the file or building is refused for, with 19 where k is above the number of steps, with 20 where a party holds or
+-- waits after the first k: the lowest of these,
+cut-refusals : (file : List ℕ) (k : ℕ) (room : List ℕ)
+    → let records = recordList (fileRecords file) in let first = performAll (startOf (builtOf records) records) (take k (stepRecords records)) in
+    cutRefusal file k room
+    ≡ refusal
+    (1 when ltb (length room) (length file)
+    ∷ (fileChecks file
+    ++ (hierarchyChecks (sizeOf records) (edgeTable records) (edgeCountOf records)
+    ++ (19 when ltb (length (stepRecords records)) k
+    ∷ 20 when anyBelow 32 (λ party. not (isOut (stageAt (first .state .desk) party)))
+    ∷ []))))
+cut-refusals file k room = refl
+
+-- and a refusal leaves the room as it was
+cut-unchanged : (file : List ℕ) (k : ℕ) (room : List ℕ) (j : ℕ) → cutRefusal file k room ≡ some j → cutFile file k room ≡ record { answer = refused j; room = room }
+unfolding cutFile
+cut-unchanged file k room j e =
+    ap (λ (o : Option ℕ). leaving o (blocksFor (length (cutRecords (recordList (fileRecords file)) k))) (blocksOfAll (cutRecords (recordList (fileRecords file)) k)) room) e
+
+-- Where it answers m blocks, these are in front of the room as it was, and they are a file that reading accepts, of no more blocks than the input. Its records are those of size and edges, a
+-- value record for each nonzero value after the first k steps, by ascending node, and the steps after k
+cut-file : (file : List ℕ) (k : ℕ) (room : List ℕ) (m : ℕ) → (cutFile file k room) .answer ≡ done m
+    → let short = take (512 * m) ((cutFile file k room) .room) in let records = recordList (fileRecords file) in
+    let first = performAll (startOf (builtOf records) records) (take k (stepRecords records)) in
+    ((cutFile file k room) .room ≡ over short room) × (refusal (fileChecks short) ≡ none) × (wholeBlocks short ≡ m) × (m ≤ wholeBlocks file)
+    × (recordList (fileRecords short) ≡ keep (λ r. leb (kindOf r) 2) records ++ (valueRecords 0 (first .state .values) ++ drop k (stepRecords records)))
+unfolding cutRecords
+cut-file file k room m e = let w = cuts.cut-well file k room m e in let f = cuts.cut-front file k room m e in (f .0, w .accepted, f .1, omega (arith, f .1, w .blocks), w .records)
+
+-- Its run has the same answers for the steps kept, so its listing numbers them from 1; the same end values; an end desk with each party's stage and the arrival list of the whole run's; and
+-- grants from the cut on: each party's up to the cut and those of the shorter run add up to the whole run's
+cut-runs : (file : List ℕ) (k : ℕ) (room : List ℕ) (m : ℕ) → (cutFile file k room) .answer ≡ done m
+    → let short = take (512 * m) ((cutFile file k room) .room) in let records = recordList (fileRecords file) in let rest = recordList (fileRecords short) in
+    let first = performAll (startOf (builtOf records) records) (take k (stepRecords records)) in
+    let whole = performAll (startOf (builtOf records) records) (stepRecords records) in
+    let after = performAll (startOf (builtOf rest) rest) (stepRecords rest) in
+    (runFile file ≡ done (fileRun whole)) × (runFile short ≡ done (fileRun after))
+    × (answersOf after ≡ drop k (answersOf whole))
+    × (listingOf (runFile short) ≡ stepLines 1 (drop k (answersOf whole)) ++ endLines (holdersAt (whole .state .desk)) (whole .state .desk .waiting) (after .state .desk .grants))
+    × (after .state .values ≡ whole .state .values)
+    × (after .state .desk .entries ≡ whole .state .desk .entries) × (after .state .desk .queue ≡ whole .state .desk .queue) × (after .state .desk .waiting ≡ whole .state .desk .waiting)
+    × ((party : ℕ) → party < 32 → getD (whole .state .desk .grants) party 0 ≡ getD (first .state .desk .grants) party 0 + getD (after .state .desk .grants) party 0)
+cut-runs file k room m e =
+    let w = cuts.cut-well file k room m e in let o = w .on in let d = w .desks in (
+      w .wholeRuns,
+      w .shortRuns,
+      o .answers,
+      ap listingOf (w .shortRuns) ∙ rw (o .answers, o .holders, o .waiters) refl,
+      o .values,
+      d .entries,
+      d .queue,
+      d .waiting,
+      o .grants,
+    )
+
+-- Demand 3 of the shorter file, and performing its book, start from the values at the cut
+cut-serial : (file : List ℕ) (k : ℕ) (room : List ℕ) (m : ℕ) → (cutFile file k room) .answer ≡ done m
+    → let short = take (512 * m) ((cutFile file k room) .room) in let records = recordList (fileRecords file) in let rest = recordList (fileRecords short) in
+    let first = performAll (startOf (builtOf records) records) (take k (stepRecords records)) in
+    let after = performAll (startOf (builtOf rest) rest) (stepRecords rest) in
+    (valuesIn (sizeOf rest) rest ≡ first .state .values) × Claims (first .state .values) (eventsOf (stepRecords rest) (answersOf after)) (after .state .values)
+cut-serial file k room m e =
+    let w = cuts.cut-well file k room m e in (w .starts, claims (cut-serials.cut-file-serial file k (take (512 * m) ((cutFile file k room) .room)) w))
+
+-- Where the cut after j steps is not refused, cutting its file after k, into a room as long as the first input, is cutting after j + k, refusals too
+cut-twice : (file : List ℕ) (j k : ℕ) (room room′ : List ℕ) (m : ℕ) → (cutFile file j room) .answer ≡ done m → length file ≤ length room′
+    → cutFile (take (512 * m) ((cutFile file j room) .room)) k room′ ≡ cutFile file (j + k) room′
+cut-twice = cuts.cut-file-twice
 
 -- THE STARRED CASES, with the papers' figures, those of {8}, of the ninth case and of the listing as document 02's points 1 and 4 have them: each passes, by computation. Table T and
 -- the table of the ninth case

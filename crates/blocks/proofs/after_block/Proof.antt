@@ -3,7 +3,7 @@ use lib.Dec.{eqb}
 use mathlib.Core.Path.{sym, _∙_}
 use native.Mathlib.Omega.{arith}
 use lib.ListN.{length-drop}
-use borrow.Author.Tests.{not-true, not-false, lt-leb, le-leb}
+use borrow.Author.Tests.{not-true, not-false, ne-eqb}
 use lib.Seq.{length-take-le}
 use Rattle.blocks.specs.Block.{afterBlock}
 use Rattle.blocks.proofs.Stages.{part-to-end, head-facts}
@@ -13,30 +13,32 @@ use Rattle.blocks.proofs.after_block.Tie as tie
 
 returns : tie.Need-returns
 unfolding afterBlock
-returns c = simp (le-leb _ _ (c .if1 .taken))
+returns c = simp (ne-eqb _ _ (c .if1 .taken))
 
 slice-aggregate-block-check : tie.Need-slice-aggregate-block-check
-slice-aggregate-block-check c = sym (length-take-le _ (c .before .before .before .args .block .now) (omega arith))
+slice-aggregate-block-check c = sym (length-take-le _ (c .before .before .before .before .args .block .now) (omega arith))
 
 returns-2 : tie.Need-returns-2
 unfolding afterBlock
 returns-2 c =
-    let k = c .before .before in
+    let k = c .before .before .before in
     let b = k .before in
-    simp (lt-leb _ _ (b .before .before .if1 .left), sym (k .number4 .ensures), sym (b .block-check .ensures), not-true (eqb (k .number4 .result) (b .block-check .result)) (c .if2 .taken))
+    c .fault .ensures
+    ∙ simp (c .before .before .before .before .before .before .if1 .left, sym (k .number4 .ensures), sym (b .block-check .ensures), not-true (eqb (k .number4 .result) (b .block-check .result)) (c .before .if2 .taken))
 
 returns-3 : tie.Need-returns-3
 unfolding afterBlock
 returns-3 c =
-    let h = c .before .before in
+    let h = c .before .before .before in
     let k = h .before in
     let b = k .before in
-    simp (
-      lt-leb _ _ (b .before .before .if1 .left),
+    c .fault2 .ensures
+    ∙ simp (
+      b .before .before .if1 .left,
       sym (k .number4 .ensures),
       sym (b .block-check .ensures),
-      not-false (eqb (k .number4 .result) (b .block-check .result)) (c .before .if2 .left),
-      sym (h .head-right .ensures) ∙ not-true _ (c .if3 .taken),
+      not-false (eqb (k .number4 .result) (b .block-check .result)) (c .before .before .if2 .left),
+      sym (h .head-right .ensures) ∙ not-true _ (c .before .if3 .taken),
     )
 
 after-records-requires : tie.Need-after-records-requires
@@ -53,7 +55,7 @@ returns-4 c =
     let b = k .before in
     c .after-records .ensures
     ∙ simp (
-      lt-leb _ _ (b .before .before .if1 .left),
+      b .before .before .if1 .left,
       sym (k .number4 .ensures),
       sym (b .block-check .ensures),
       not-false (eqb (k .number4 .result) (b .block-check .result)) (i .before .if2 .left),
@@ -71,7 +73,9 @@ after-block-spec =
     (λ c κs. search needs)
     (λ c κs. search needs)
     (λ c κs. search needs)
+    (λ c κs. search needs)
     returns-2
+    (λ c κs. search needs)
     returns-3
     (λ c. search needs)
     (λ c. search needs)

@@ -10,10 +10,10 @@ use Rattle.blocks.proofs.after_records.Statement.{statement}
 use Rattle.blocks.proofs.after_records.Tie as tie
 
 abbrev Inv-loop : tie.InvT-loop
-Inv-loop stage s n reached₀ i₀ reached i = (i ≤ n) × (afterRecords reached (n - i) (drop (16 * i) s) ≡ afterRecords stage n s)
+Inv-loop s n reached₀ i₀ reached i = (i ≤ n) × (afterRecords reached (n - i) (drop (16 * i) s) ≡ afterRecords reached₀ n s)
 
 abbrev μ-loop : tie.MeasureT-loop
-μ-loop stage s n reached₀ i₀ reached i = n - i
+μ-loop s n reached₀ i₀ reached i = n - i
 
 loop-holds : tie.Need-loop-holds Inv-loop μ-loop
 loop-holds c = (omega arith, start-records _ _ _)

@@ -36,19 +36,25 @@ returns-7 c = let b = c .before .before in c .zero-but-value2 .ensures ∙ sym (
 
 returns-8 : tie.Need-returns-8
 unfolding kinds rowIn
-returns-8 c =
+returns-8 c = let b = c .before .before in c .value-right .ensures ∙ sym (right-at (b .before .before .args .r .now) (sym (b .byte .ensures) ∙ c .before .match .keys8))
+
+returns-9 : tie.Need-returns-9
+unfolding kinds rowIn
+returns-9 c =
     let b = c .before in
     let r = b .before .before .args .r .now in
     let n = c .match .rest in
     sym
     (right-at r (sym (b .byte .ensures))
     ∙ ap (λ (k : Kind). k .right r)
-    (past-rows 7 kinds (b .byte .result) (n .0 .0 .0 .0 .0 .0 .1, (n .0 .0 .0 .0 .0 .1, (n .0 .0 .0 .0 .1, (n .0 .0 .0 .1, (n .0 .0 .1, (n .0 .1, (n .1, tt)))))))))
+    (past-rows 8 kinds (b .byte .result)
+    (n .0 .0 .0 .0 .0 .0 .0 .1, (n .0 .0 .0 .0 .0 .0 .1, (n .0 .0 .0 .0 .0 .1, (n .0 .0 .0 .0 .1, (n .0 .0 .0 .1, (n .0 .0 .1, (n .0 .1, (n .1, tt))))))))))
 
 pub record-right-spec : {M : Type 1} → statement M
 record-right-spec =
     tie.close
     (tie.spec
+    (λ c κs. search needs)
     (λ c κs. search needs)
     (λ c κs. search needs)
     (λ c κs. search needs)
@@ -64,4 +70,5 @@ record-right-spec =
     returns-5
     returns-6
     returns-7
-    returns-8)
+    returns-8
+    returns-9)

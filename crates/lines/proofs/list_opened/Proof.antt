@@ -1,6 +1,7 @@
 -- `list_opened` meets its contract: the parts of the places that are the file's are within them. Assumes nothing.
 use mathlib.Core.Path.{_≡_, refl, sym}
-use Prim.Native.Nat.{_*_, _≤_}
+use mathlib.Core.List.{List}
+use Prim.Native.Nat.{ℕ, _*_, _≤_}
 use native.Mathlib.Omega.{arith}
 use lib.ListN.{length, take}
 use lib.Seq.{length-take-le}
@@ -40,7 +41,9 @@ slice-aggregate-list-built-4 c = let z = c .before .before .before .before .befo
     let h : z .n ≤ length (z .values .now) = omega (arith, c .before .before .before .before .before .before .before .before .before .pre) in sym (length-take-le _ _ h)
 
 list-built-requires : tie.Need-list-built-requires
-list-built-requires c κs = search needs
+list-built-requires c κs =
+    let e = c .before .before .before .before .before .before .before .before .before .before in
+    (e .pre .1 .1, length-take-le (e .args .n) (e .args .values .now) (omega (arith, e .pre)))
 
 same-length : tie.Need-same-length
 same-length c = search needs
@@ -54,9 +57,9 @@ returns c =
     let z = e .args in
     let l = c .before .before .before .before .list-built in
     let long : length (take (z .n) (z .values .now)) ≡ z .n = length-take-le (z .n) (z .values .now) (omega (arith, e .pre)) in
-    ready-shown (lent (z .n) (take (2 * z .n) (z .places .now)) (take (2 * z .edge-count) (z .edges .now)) (z .edge-count))
-    (stepRecords (recordList (take (16 * z .total) (z .records .now)))) (length (take (z .n) (z .values .now))) (z .n)
-    (z .values .now) (z .text .now) (l .last .1 .1 .1 .1 .1 .0) refl long (omega (arith, c .before .before .before .values .given)) (l .ensures)
+    let rs : List (List ℕ) = recordList (take (16 * z .total) (z .records .now)) in
+    ready-shown (lent (z .n) (take (2 * z .n) (z .places .now)) (take (2 * z .edge-count) (z .edges .now)) (z .edge-count)) rs (stepRecords rs)
+    (z .values .now) (z .text .now) (l .last .1 .1 .1 .1 .1 .0) refl (omega (arith, long, c .before .before .before .values .given)) (l .ensures)
 
 pub list-opened-spec : {M : Type 1} → statement M
 list-opened-spec =

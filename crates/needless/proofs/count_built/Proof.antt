@@ -1,4 +1,4 @@
--- `count_built` meets its contract: the words have the reaches, nobody has called, and the values are zero. Assumes nothing.
+-- `count_built` meets its contract: the words have the reaches, nobody has called, and there are n values. Assumes nothing.
 use mathlib.Core.Path.{_≡_, refl, sym, _∙_}
 use mathlib.Core.List.{List, _++_}
 use Prim.Native.Nat.{ℕ, _*_, _≤_}
@@ -10,7 +10,6 @@ use Rattle.hierarchy.specs.Hierarchy.{edgesOf}
 use Rattle.hierarchy.proofs.Legals.{Promise, promised}
 use Rattle.reach_sets.specs.Sets.{setTable}
 use Rattle.reach_sets.proofs.Plains.{many-enough, sets-are}
-use Rattle.needless.proofs.Files.{zeros-taken}
 use borrow.Author.Needs.{needs}
 use Rattle.needless.proofs.count_built.Statement.{statement}
 use Rattle.needless.proofs.count_built.Tie as tie
@@ -68,21 +67,21 @@ slice-aggregate-sets c = sym (fresh-long (c .before .before .before .before))
 array-share-prefix-sets : tie.Need-array-share-prefix-sets
 array-share-prefix-sets c = words-long (c .before)
 
-slice-aggregate-count-steps : tie.Need-slice-aggregate-count-steps
-slice-aggregate-count-steps c = let k = c .before .before in sym (length-take-le (4 * n (first k)) (words k) (words-long k))
+slice-aggregate-count-records : tie.Need-slice-aggregate-count-records
+slice-aggregate-count-records c = let k = c .before .before in sym (length-take-le (4 * n (first k)) (words k) (words-long k))
 
 array-borrow-prefix-values : tie.Need-array-borrow-prefix-values
 array-borrow-prefix-values c = promise (first (c .before .before)) .few
 
-slice-aggregate-count-steps-2 : tie.Need-slice-aggregate-count-steps-2
-slice-aggregate-count-steps-2 c = let s = first (c .before .before .before) in sym (length-take-le {A = ℕ} (n s) (replicate 256 0) (promise s .few))
+slice-aggregate-count-records-2 : tie.Need-slice-aggregate-count-records-2
+slice-aggregate-count-records-2 c = let s = first (c .before .before .before) in sym (length-take-le {A = ℕ} (n s) (replicate 256 0) (promise s .few))
 
-count-steps-requires : tie.Need-count-steps-requires
-count-steps-requires c κs = let k = c .before .before .before .before in let s = first k in
-    (s .pre .right, (record { few = promise s .few; are = reaches k }, (refl, zeros-taken (n s) 256 (promise s .few))))
+count-records-requires : tie.Need-count-records-requires
+count-records-requires c κs = let k = c .before .before .before .before in let s = first k in
+    (s .pre .right, (record { few = promise s .few; are = reaches k }, (refl, length-take-le {A = ℕ} (n s) (replicate 256 0) (promise s .few))))
 
 returns : tie.Need-returns
-returns c = c .before .before .count-steps .ensures
+returns c = c .before .before .count-records .ensures
 
 pub count-built-spec : {M : Type 1} → statement M
 count-built-spec =
@@ -93,9 +92,9 @@ count-built-spec =
     slice-aggregate-sets
     (λ c κs. search needs)
     array-share-prefix-sets
-    slice-aggregate-count-steps
+    slice-aggregate-count-records
     array-borrow-prefix-values
-    slice-aggregate-count-steps-2
+    slice-aggregate-count-records-2
     (λ c. search needs)
-    count-steps-requires
+    count-records-requires
     returns)

@@ -9,7 +9,8 @@ use Rattle.desk.specs.declared.Desk.{Desk}
 use Rattle.replay.specs.Replay.{recordList, isRecord}
 use Rattle.replay.proofs.Records.{records-length, records-at}
 use Rattle.needless.specs.declared.Waits.{Waits}
-use Rattle.needless.proofs.Tallies.{record-at, Counting, counting-start, counting-few, counting-more, counting-end}
+use Rattle.lists.proofs.Loops.{every-at}
+use Rattle.needless.proofs.Tallies.{Counting, counting-start, counting-few, counting-more, counting-end}
 use borrow.Author.Needs.{needs}
 use Rattle.needless.proofs.count_steps.Statement.{statement}
 use Rattle.needless.proofs.count_steps.Tie as tie
@@ -63,7 +64,7 @@ part-count-step-end c = omega (arith, c .loop-test .taken)
 count-step-requires : tie.Need-count-step-requires Inv-loop μ-loop
 count-step-requires c κs = let l = c .before .before .before in let a = s l .args in let q = l .before .loop in
     let few = counting-few (lent (a .n) (a .intervals .now) (a .edges .now) (a .edge-count)) (a .sets .now) (rs l) (a .values .now) (q .i) (q .progress) (q .values) (q .called) (q .inv) in (
-      ap isRecord (sym (read l)) ∙ record-at isRecord (rs l) (i l) (s l .pre .0) (there l),
+      ap isRecord (sym (read l)) ∙ every-at isRecord (rs l) (i l) [] (s l .pre .0) (there l),
       (omega (arith, few .0, records-length (a .records .now), s l .good), omega (arith, few .1, records-length (a .records .now), s l .good)),
     )
 

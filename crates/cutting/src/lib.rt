@@ -1,0 +1,1 @@
+// Definitions and laws only: a file cut after its first k steps.
