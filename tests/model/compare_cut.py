@@ -347,7 +347,7 @@ def judged(rnd, programs, data, seen, refused):
         whole = whole or listed(programs[1], data)
         asked(data, k, shorter, whole, lambda file: listed(programs[1], file))
         again = rnd.choice([*(x - k for x in out if x >= k), rnd.randrange(clear(shorter)[0] + 2)])
-        if cut(programs[0], str(again), shorter) != model.cut(data, k + again):
+        if cut(programs[0], str(again), shorter) != cut(programs[0], str(k + again), data):
             raise Differs(f"cut at {k} and then at {again} it is another file than cut at {k + again}")
         seen[{19: AGAIN_19, 20: AGAIN_20}.get(model.cut(data, k + again), AGAIN)] += k > 0
 

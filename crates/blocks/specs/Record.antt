@@ -153,6 +153,6 @@ rowOf r = rowIn kinds (kindOf r)
 unfoldable pub recordRight : List ℕ → Bool
 recordRight r = rowOf r .right r
 
--- a step's kind: from 3 on, but not that of a value
+-- a step's kind: from 3 on, but not that of a value; of these only 3 to 7 have a row, so that a right record with such a kind is of one of them
 abbrev pub stepKind : ℕ → Bool
 stepKind kind = leb 3 kind && not (eqb kind 8)

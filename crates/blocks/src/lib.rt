@@ -1,6 +1,5 @@
 // Block files: records, reading and writing, refusals 1 to 4.
 ghost use mathlib.Core.Path.{_≡_};
-ghost use mathlib.Core.Bool.{cond};
 ghost use Prim.Native.Nat.{_+_, _*_, _<_, _≤_};
 ghost use lib.ListN.{length};
 ghost use Rattle.lists.specs.Lists.{over};
@@ -92,7 +91,7 @@ fn value_right(r: &[u8]) -> bool
     octets::number8(r, 4) != 0
 }
 
-// Whether a kind is a step's: from 3 on, but not 8, the kind of a value.
+// Whether a kind is a step's: from 3 on, but not 8, the kind of a value. Records are right of 3 to 7 only.
 pub fn step_kind(kind: u8) -> bool
     ensures { λ r. ⌜ r ≡ stepKind kind ⌝ }
 {

@@ -1,6 +1,5 @@
 // The program that cuts a file: k is its argument, the file is on standard input, and the shorter file goes to standard output.
 ghost use mathlib.Core.Path.{_≡_};
-ghost use Prim.Native.Nat.{_*_, _≤_};
 ghost use lib.ListN.{length};
 use shorter::CutAnswer;
 

@@ -9,6 +9,7 @@ use lib.Dec.{eqb, leb}
 use lib.ListN.{length, take, drop, length-append}
 use lib.Seq.{take-at, drop-at}
 use Rattle.lists.specs.Lists.{every, keep, keptIf, count, one}
+use Rattle.lists.proofs.Kept.{every-drop, every-keep, every-kept, keep-none}
 use Rattle.lists.proofs.Loops.{keep-count}
 use Rattle.lists.proofs.Bools.{bool, and-left, and-right, and-both}
 use Rattle.blocks.specs.declared.ReadStage.{ReadStage}
@@ -18,7 +19,7 @@ use Rattle.blocks.proofs.Rows.{after-stays}
 use Rattle.block_laws.proofs.ByKind.{oneOfEight, placeOf, ordered, inTurn, pastRecord, right-by-kind, after-by-kind}
 use Rattle.replay.specs.Replay.{edgeCountOf, stepRecords}
 use Rattle.cutting.specs.Cut.{headRecords, valueRecord, valueRecords}
-use Rattle.cutting.proofs.Parts.{keep-none, every-keep, every-kept, every-drop, ofHead, ofValue, ofStep, head-no-value, head-no-step, value-no-step, step-no-head, step-no-value, else-step}
+use Rattle.cutting.proofs.Parts.{ofHead, ofValue, ofStep, head-no-value, head-no-step, value-no-step, step-no-head, step-no-value, else-step}
 
 -- the stage after records, one by one
 unfoldable pub afterEach : ReadStage → List (List ℕ) → ReadStage
@@ -62,13 +63,14 @@ goes t r z a b c =
     (and-both (recordRight r) (ordered t (kindOf r) && inTurn t (kindOf r) r) a (and-both (ordered t (kindOf r)) (inTurn t (kindOf r) r) b c))
 
 -- and one that was taken fits
-record Went (t : ReadStage) (r : List ℕ) (rs : List (List ℕ)) : Type 0 where
-  right : recordRight r ≡ true
-  order : ordered t (kindOf r) ≡ true
-  past : afterRecord t r ≡ pastRecord t (kindOf r) r
-  on : (afterEach (pastRecord t (kindOf r) r) rs) .wrong ≡ 0
+pub record Went (t : ReadStage) (r : List ℕ) (rs : List (List ℕ)) : Type 0 where
+  pub right : recordRight r ≡ true
+  pub order : ordered t (kindOf r) ≡ true
+  pub turn : inTurn t (kindOf r) r ≡ true
+  pub past : afterRecord t r ≡ pastRecord t (kindOf r) r
+  pub on : (afterEach (pastRecord t (kindOf r) r) rs) .wrong ≡ 0
 
-went : (t : ReadStage) (r : List ℕ) (rs : List (List ℕ)) → (afterEach t (r ∷ rs)) .wrong ≡ 0 → Went t r rs
+pub went : (t : ReadStage) (r : List ℕ) (rs : List (List ℕ)) → (afterEach t (r ∷ rs)) .wrong ≡ 0 → Went t r rs
 unfolding afterEach
 went t r rs h =
     let z : t .wrong ≡ 0 = before t (r ∷ rs) h in
@@ -78,6 +80,7 @@ went t r rs h =
     record {
       right = and-left (recordRight r) (ordered t (kindOf r) && inTurn t (kindOf r) r) e;
       order = and-left (ordered t (kindOf r)) (inTurn t (kindOf r) r) (and-right (recordRight r) (ordered t (kindOf r) && inTurn t (kindOf r) r) e);
+      turn = and-right (ordered t (kindOf r)) (inTurn t (kindOf r) r) (and-right (recordRight r) (ordered t (kindOf r) && inTurn t (kindOf r) r) e);
       past = past;
       on = sym (ap (λ (u : ReadStage). (afterEach u rs) .wrong) past) ∙ h;
     })
@@ -86,7 +89,7 @@ went t r rs h =
     absurd (omega arith))
 
 -- THE ORDER. Behind the first record each has kind 2 at least, and its place is never before that of the last
-order-later : (t : ReadStage) (kind : ℕ) → 1 ≤ t .at → ordered t kind ≡ true → (2 ≤ kind) × (t .at ≤ placeOf kind)
+pub order-later : (t : ReadStage) (kind : ℕ) → 1 ≤ t .at → ordered t kind ≡ true → (2 ≤ kind) × (t .at ≤ placeOf kind)
 order-later t kind z h =
     let no : eqb (t .at) 0 ≡ false = ne-eqb (t .at) 0 (λ e. omega arith) in
     let g : (leb 2 kind && leb (t .at) (placeOf kind)) ≡ true = rw (no, le-leb 1 (t .at) z) at h in
@@ -161,12 +164,12 @@ parted (r ∷ rs) t h k =
     ∙ ahead r (headRecords rs) (keep ofValue rs ++ stepRecords rs) (no-head (omega (arith, place-step r s))) ∙ ih))
 
 -- the first is the size record
-record First (r : List ℕ) (rs : List (List ℕ)) : Type 0 where
-  kind : kindOf r ≡ 1
-  past : afterRecord begun r ≡ reached 1 (sizeIn r) 0
-  on : (afterEach (reached 1 (sizeIn r) 0) rs) .wrong ≡ 0
+pub record First (r : List ℕ) (rs : List (List ℕ)) : Type 0 where
+  pub kind : kindOf r ≡ 1
+  pub past : afterRecord begun r ≡ reached 1 (sizeIn r) 0
+  pub on : (afterEach (reached 1 (sizeIn r) 0) rs) .wrong ≡ 0
 
-first : (r : List ℕ) (rs : List (List ℕ)) → Taken (r ∷ rs) → First r rs
+pub first : (r : List ℕ) (rs : List (List ℕ)) → Taken (r ∷ rs) → First r rs
 first r rs h =
     let w = went begun r rs h in
     let kind = eqb-true (kindOf r) 1 (sym (or-false (eqb (kindOf r) 1)) ∙ w .order) in

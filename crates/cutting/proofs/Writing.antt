@@ -10,6 +10,7 @@ use lib.Dec.{eqb, ltb}
 use lib.ListN.{length, take, drop, length-append, length-drop, take-append-drop}
 use lib.Seq.{take-nil, drop-nil, drop-at, take-at, take-add, drop-drop, length-take-le}
 use Rattle.lists.specs.Lists.{every, keep, keptIf, count}
+use Rattle.lists.proofs.Kept.{every-append, every-drop, every-kept}
 use Rattle.lists.specs.Answer.{Check, _when_, done, refusal}
 use Rattle.lists.proofs.Bools.{bool, not-both, and-left, and-right, and-both}
 use Rattle.lists.proofs.Refusals.{refusal-none, refusal-nil, refused-here, refused-later}
@@ -25,7 +26,7 @@ use Rattle.replay.proofs.Records.{records-length}
 use Rattle.opening.specs.Opening.{fileRows, builtChecks}
 use Rattle.opening.proofs.Opens.{done-by}
 use Rattle.cutting.specs.Cut.{afterFirst, headRecords, valueRecord, valueRecords, cutRecords, tooFar, someoneAfter, cutChecks, cutRefusal, bytesOf, blocksOfAll, cutFile}
-use Rattle.cutting.proofs.Parts.{every-kept, every-drop, every-append, ofHead, ofStep}
+use Rattle.cutting.proofs.Parts.{ofHead, ofStep}
 use Rattle.cutting.proofs.Orders.{afterEach, Taken, first-head, head-front, steps-behind, parts-taken}
 use Rattle.cutting.proofs.Doing.{values-long}
 use Rattle.cutting.proofs.Sizes.{cut-length}

@@ -468,7 +468,7 @@ records =
     ∷ answer (performing tableT (get 1 9)) (value 100 ∷ [])
     ∷ answer (performing tableT (put 1 9 77)) (stored ∷ [])
     ∷ are (performedTo tableT (put 1 9 77)) (deskNumbers four ++ set (replicate 10 100) 9 77)
-    -- kinds that are no step's: none, size, edge, 8 though it is a right value, 10; a 7 is an add, which 3, a reader, may not
+    -- what is no step: kind 0, size, edge, 8 though it is a right value; 10, of which no record is right; a 7 is an add, which 3, a reader, may not
     ∷ answer (performing tableT (bytes16 [])) (refused 4 ∷ [])
     ∷ answer (performing tableT (size 10)) (refused 4 ∷ [])
     ∷ answer (performing tableT (edge 0 1)) (refused 4 ∷ [])

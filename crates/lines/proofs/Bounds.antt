@@ -41,16 +41,12 @@ use Rattle.replay.specs.Replay.{StepAnswer, granted, refused, enterLine, getLin
 use Rattle.replay.specs.Replay.{enterCall, freshScratch, getCall, putCall, addCall, leaveCall, stepOf, performStep}
 use Rattle.runs.specs.Run.{lend, Call, lentTo, State, listed, afterEnter, afterGet, afterPut, afterAdd, afterLeave, moveCall, move}
 use Rattle.runs.proofs.Lends.{restored-full, put-length, add-length}
+use Rattle.opening.proofs.Bytes.{below-append}
 use Rattle.texts.specs.Text.{decimal, space, spaced, answerText}
 use Rattle.texts.proofs.Puts.{decimal-most}
 
 -- LISTS whose numbers are below a bound
 module _ (m : ℕ) where
-  pub below-append : (xs ys : List ℕ) → Below m xs → Below m ys → Below m (xs ++ ys)
-  below-append [] ys f g i = g i
-  below-append (x ∷ xs) ys f g zero = f 0
-  below-append (x ∷ xs) ys f g (suc i) = below-append xs ys (λ j. f (suc j)) g i
-
   below-keep : (p : ℕ → Bool) (l : List ℕ) → Below m l → Below m (keep p l)
   unfolding keep
   below-keep p [] f = f

@@ -3,11 +3,11 @@ use mathlib.Core.Path.{_≡_, refl}
 use mathlib.Core.Bool.{Bool, true, false, cond}
 use mathlib.Core.List.{List, [], _∷_, _++_}
 use mathlib.Core.Option.{Option, none, some}
-use Prim.Native.Nat.{ℕ, zero, suc, _+_, _*_, _/_, _≤_, _<_}
+use Prim.Native.Nat.{ℕ, suc, _+_, _*_, _/_, _≤_, _<_}
 use native.Mathlib.Nat.{pow-zero, pow-suc}
 use native.Mathlib.Omega.{arith}
 use lib.Dec.{eqb}
-use lib.ListN.{length, take, drop, set, replicate, length-append}
+use lib.ListN.{length, set, replicate, length-append}
 use Rattle.lists.proofs.Loops.{count-most, keep-few}
 use Rattle.lists.proofs.Marks.{set-get, zero-at}
 use Rattle.grants.proofs.Counts.{sum-most}
@@ -15,32 +15,26 @@ use Rattle.lists.specs.Lists.{every, keptIf, keep, sum, Below}
 use Rattle.lists.specs.Answer.{done, refused, refusal}
 use Rattle.hierarchy.specs.Hierarchy.{hierarchyChecks}
 use Rattle.blocks.specs.Record.{kindOf, valueNodeIn, valueIn, stepKind}
-use Rattle.blocks.specs.Block.{countIn, recordsIn}
-use Rattle.blocks.specs.File.{recordsOf, wholeBlocks, fileRecords, fileChecks}
-use Rattle.block_laws.proofs.Pieces.{bytes-take, bytes-drop}
+use Rattle.blocks.specs.File.{wholeBlocks, fileRecords, fileChecks}
 use Rattle.parties.specs.declared.Entry.{Entry}
 use Rattle.desk.specs.declared.Desk.{Desk}
 use Rattle.locks.specs.Stages.{isHolding}
 use Rattle.locks.specs.Lent.{Hierarchy}
 use Rattle.runs.specs.Run.{State, Ran, alsoRan, run}
-use Rattle.replay.specs.Replay.{StepAnswer, answerIn, answersOf, eachRecord, recordList, stepRecords, sizeOf, edgeTable, edgeCountOf, builtOf, withValue, valuesFrom}
+use Rattle.replay.specs.Replay.{StepAnswer, answerIn, answersOf, recordList, stepRecords, sizeOf, edgeTable, edgeCountOf, builtOf, withValue, valuesFrom}
 use Rattle.replay.specs.Replay.{startOf, performStep, performAll, holdersAt, fileRun, runUnless, runRecords, fileUnless, runFile}
 use Rattle.replay.proofs.Records.{records-length}
+use Rattle.opening.proofs.Bytes.{AllBytes, each-bytes, records-bytes}
 use Rattle.opening.proofs.Opens.{records-whole}
 use Rattle.texts.specs.Text.{decimal, space, newline, answerText, refusedWord, endWord, partyWord}
 use Rattle.texts.specs.Lines.{stepLine, stepLines, endLine, partyLine, lineIfGranted, partyLines, endLines, listing}
 use Rattle.texts.proofs.Puts.{decimal-most}
-use Rattle.lines.proofs.Bounds.{below-append, digits-most, Short, AtMost, refusal-low, Bounded, Fine, number-wide, perform-fine, fresh-bounded}
+use Rattle.lines.proofs.Bounds.{digits-most, Short, AtMost, refusal-low, Bounded, Fine, number-wide, perform-fine, fresh-bounded}
 
 -- A LINE has at most 160 bytes
 line-most : (k : ℕ) → k < 18446744073709551616 → (a : StepAnswer) → Short a → length (stepLine k a) ≤ 160
 line-most k h a s =
     omega (arith, length-append (decimal k ++ space) (answerText a ++ newline), length-append (decimal k) space, length-append (answerText a) newline, digits-most k h)
-
--- RECORDS of bytes
-abbrev pub AllBytes : List (List ℕ) → Type 0
-AllBytes [] = Unit {0}
-AllBytes (r ∷ rs) = Below 256 r × AllBytes rs
 
 -- the steps' lines, and what the steps leave
 pub steps-most : (rs : List (List ℕ)) (s : State) (k : ℕ) → k + length rs ≤ 18446744073709551615 → AllBytes rs → Fine s
@@ -53,12 +47,7 @@ steps-most (r ∷ rs) s k h b f =
     let line = line-most k (omega arith) (answerIn ((performStep s r) .event)) (one .1) in
     (more .0, omega (arith, length-append (stepLine k (answerIn ((performStep s r) .event))) (stepLines (suc k) (answersOf (performAll ((performStep s r) .state) rs))), line, more .1))
 
--- A PART of bytes is bytes: records of a file, and its steps
-pub each-bytes : (k : ℕ) (bytes : List ℕ) → Below 256 bytes → AllBytes (eachRecord k bytes)
-unfolding eachRecord
-each-bytes zero bytes b = tt
-each-bytes (suc k) bytes b = (bytes-take 16 bytes b, each-bytes k (drop 16 bytes) (bytes-drop 16 bytes b))
-
+-- the steps of records of bytes are such
 pub steps-bytes : (rs : List (List ℕ)) → AllBytes rs → AllBytes (stepRecords rs)
 unfolding keep
 steps-bytes [] b = tt
@@ -67,13 +56,6 @@ steps-bytes (r ∷ rs) b = by (stepKind (kindOf r)) (steps-bytes rs (b .1))
     by : (t : Bool) → AllBytes (stepRecords rs) → AllBytes (keptIf t r (stepRecords rs))
     by true more = (b .0, more)
     by false more = more
-
-records-bytes : (k : ℕ) (s : List ℕ) → Below 256 s → Below 256 (recordsOf k s)
-unfolding recordsOf recordsIn
-records-bytes zero s b = λ i. omega arith
-records-bytes (suc k) s b =
-    below-append 256 (recordsIn (take 512 s)) (recordsOf k (drop 512 s)) (bytes-take (16 * countIn (take 512 s)) (drop 8 (take 512 s)) (bytes-drop 8 (take 512 s) (bytes-take 512 s b)))
-    (records-bytes k (drop 512 s) (bytes-drop 512 s b))
 
 -- AFTER THE STEPS: the line `end`,
 end-most : (h w g : ℕ) → h < 18446744073709551616 → w < 18446744073709551616 → g < 18446744073709551616 → length (endLine h w g) ≤ 160

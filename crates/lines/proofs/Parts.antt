@@ -20,6 +20,7 @@ use Rattle.locks.specs.Lent.{Hierarchy, lent}
 use Rattle.desk.specs.Desks.{freshDesk}
 use Rattle.runs.specs.Run.{State, Ran, alsoRan, run}
 use Rattle.replay.specs.Replay.{StepAnswer, answerIn, answersOf, isRecord, performStep, performAll, recordList, stepRecords, holdersAt, valuesIn, startOf, runFile, eachRecord}
+use Rattle.replay.proofs.Outcomes.{answers-length}
 use Rattle.replay.proofs.Records.{records-length}
 use Rattle.texts.specs.Lines.{stepLine, stepLines, endLines, listing}
 use Rattle.texts.specs.Pages.{Page, pageOf, put}
@@ -27,7 +28,8 @@ use Rattle.lines.specs.Pieces.{Written, writtenOf, recordsWritten, anew,
 use Rattle.texts.proofs.Puts.{put-fits, put-within}
 use Rattle.lines.proofs.Runs.{records-ran}
 use Rattle.lines.proofs.Bounds.{Fine}
-use Rattle.lines.proofs.Fits.{AllBytes, steps-most, each-bytes, steps-bytes, desk-end-most, start-fine}
+use Rattle.opening.proofs.Bytes.{AllBytes, each-bytes}
+use Rattle.lines.proofs.Fits.{steps-most, steps-bytes, desk-end-most, start-fine}
 use Rattle.opening.proofs.Opens.{Ready}
 
 -- WHAT FITS is shown whole
@@ -53,11 +55,6 @@ lines-append k (a ∷ xs) bs =
     let next : suc k + length xs ≡ k + suc (length xs) = omega arith in
     ap (λ (l : List ℕ). stepLine k a ++ l) (lines-append (suc k) xs bs ∙ ap (λ (m : ℕ). stepLines (suc k) xs ++ stepLines m bs) next)
     ∙ sym (append-assoc (stepLine k a) (stepLines (suc k) xs) (stepLines (k + suc (length xs)) bs))
-
-answers-length : (rs : List (List ℕ)) (s : State) → length (answersOf (performAll s rs)) ≡ length rs
-unfolding run alsoRan
-answers-length [] s = refl
-answers-length (r ∷ rs) s = ap suc (answers-length rs ((performStep s r) .state))
 
 bytes-apart : (xs bs : List (List ℕ)) → AllBytes (xs ++ bs) → AllBytes xs × AllBytes bs
 bytes-apart [] bs f = (tt, f)

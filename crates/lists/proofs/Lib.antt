@@ -9,3 +9,4 @@ pub mod Loops
 pub mod Bounded
 pub mod Distinct
 pub mod Parts
+pub mod Kept

@@ -15,10 +15,10 @@ abbrev pub isDecimal : List ℕ → Bool
 isDecimal text = not (eqb (length text) 0) && every isDigit text
 
 -- the number behind another that the digits before it stand for
-unfoldable pub numberFrom : ℕ → List ℕ → ℕ
-numberFrom x [] = x
-numberFrom x (b ∷ text) = numberFrom (10 * x + (b - 48)) text
+unfoldable pub decimalFrom : ℕ → List ℕ → ℕ
+decimalFrom x [] = x
+decimalFrom x (b ∷ text) = decimalFrom (10 * x + (b - 48)) text
 
 -- the number
-abbrev pub numberOf : List ℕ → ℕ
-numberOf text = numberFrom 0 text
+abbrev pub decimalNumber : List ℕ → ℕ
+decimalNumber text = decimalFrom 0 text

@@ -1,7 +1,7 @@
 // A decimal number in text, of any size.
 ghost use mathlib.Core.Path.{_≡_};
 ghost use Prim.Native.Nat.{_+_, _*_, _-_, min};
-ghost use Rattle.numerals.specs.Numerals.{isDecimal, numberOf};
+ghost use Rattle.numerals.specs.Numerals.{isDecimal, decimalNumber};
 
 // The greatest number.
 const GREATEST: usize = 18446744073709551615;
@@ -53,7 +53,7 @@ pub fn is_decimal(text: &[u8]) -> bool
 
 // The number that a decimal text stands for, or the greatest number where it does not fit.
 pub fn number_in(text: &[u8]) -> usize
-    ensures { λ r. ⌜ r ≡ min (numberOf (now (text .entry))) 18446744073709551615 ⌝ }
+    ensures { λ r. ⌜ r ≡ min (decimalNumber (now (text .entry))) 18446744073709551615 ⌝ }
 {
     let mut x = 0;
     let mut i = 0;

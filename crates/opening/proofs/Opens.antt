@@ -19,6 +19,7 @@ use Rattle.intervals.specs.Build.{buildShort, buildRefusal, buildStep, buildMea
 use Rattle.lists.proofs.Bools.{bool}
 use Rattle.lists.proofs.Loops.{count-most}
 use Rattle.lists.proofs.Refusals.{refused-here, refused-later, refusal-none}
+use Rattle.lists.proofs.Numbers.{onward}
 use Rattle.hierarchy.proofs.Legals.{right-size}
 use Rattle.interval_laws.proofs.Laws.{built-length}
 use Rattle.blocks.specs.declared.ReadAnswer.{ReadAnswer}
@@ -87,14 +88,6 @@ refusal-front (c ∷ cs) ds e =
     bool (c .holds)
     (λ h. refused-here c (cs ++ ds) h ∙ sym (refused-here c cs h) ∙ e)
     (λ h. refused-later c (cs ++ ds) h ∙ refusal-front cs ds (sym (refused-later c cs h) ∙ e))
-
-pub refusal-past : (cs ds : List Check) → refusal cs ≡ none → refusal (cs ++ ds) ≡ refusal ds
-unfolding refusal
-refusal-past [] ds e = refl
-refusal-past (c ∷ cs) ds e =
-    bool (c .holds)
-    (λ h. let z : some (c .number) ≡ none = sym (refused-here c cs h) ∙ e in let y : _≡_ {A = ℕ} 0 1 = cc in absurd (omega arith))
-    (λ h. refused-later c (cs ++ ds) h ∙ refusal-past cs ds (sym (refused-later c cs h) ∙ e))
 
 -- THE HIERARCHY. Over 256 nodes are refused with 5
 module _ (n : ℕ) (edges : List ℕ) (count total : ℕ) (places : List ℕ) where
@@ -234,7 +227,7 @@ module _ (file records edges places : List ℕ) where
       → records′ ≡ roomAfter (readingRefusal file) (fileRecords file) records → part ≡ fileRecords file
       → RecordsOpened (recordList part) total edges places edges′ places′ r → FileOpened file records edges places r records′ edges′ places′
   file-opened {records′} {edges′} {places′} {part} {total} r e count w front h =
-      let all = refusal-past (fileChecks file) (builtChecks (fileRows file)) e in
+      let all = onward (fileChecks file) (builtChecks (fileRows file)) e in
       let g = subst (λ (t : List ℕ). RecordsOpened (recordList t) total edges places edges′ places′ r) front h in
       record {
         answer = g .0 .0
@@ -262,7 +255,7 @@ module _ (file : List ℕ) (a : OpenAnswer) (e : openMeaning a ≡ answerOf (bui
         by (some j) f = let z : some j ≡ none = sym (refusal-front (fileChecks file) (builtChecks (fileRows file)) f) ∙ answered .0 in let y : _≡_ {A = ℕ} 0 1 = cc in absurd (omega arith)
 
     built-right : refusal (builtChecks (fileRows file)) ≡ none
-    built-right = sym (refusal-past (fileChecks file) (builtChecks (fileRows file)) file-right) ∙ answered .0
+    built-right = sym (onward (fileChecks file) (builtChecks (fileRows file)) file-right) ∙ answered .0
 
     n-is : sizeOf (fileRows file) ≡ n
     n-is = ap (λ (o : Opening). o .n) (answered .1)
@@ -384,7 +377,7 @@ module _ (file records edges places : List ℕ) (a : OpenAnswer) {records′ edg
 
       by : (o : Option ℕ) → readingRefusal file ≡ o → fileUnless o file ≡ refused k
       by (some j) f = let z = sym (refusal-front (fileChecks file) (builtChecks (fileRows file)) f) ∙ all in cc
-      by none f = ap (λ (o : Option ℕ). runUnless o (fileRows file)) (sym (refusal-past (fileChecks file) (builtChecks (fileRows file)) f) ∙ all)
+      by none f = ap (λ (o : Option ℕ). runUnless o (fileRows file)) (sym (onward (fileChecks file) (builtChecks (fileRows file)) f) ∙ all)
 
   module _ (n count total : ℕ) (t : a ≡ Opened n count total) where
     accepted-all : openRefusal (openShort records edges places) file ≡ none

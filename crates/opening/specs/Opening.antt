@@ -1,4 +1,4 @@
--- Opening a file: its records, its edge table and its intervals into lent places, so that its steps can be listed in pieces. Assumes nothing.
+-- Opening a file: its records, its edge table and its intervals into lent places, so that its steps can be listed in pieces, counted or cut. Assumes nothing.
 use mathlib.Core.Path.{_≡_}
 use mathlib.Core.Bool.{Bool, _||_}
 use mathlib.Core.List.{List, _∷_, _++_}

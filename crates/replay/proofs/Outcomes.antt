@@ -1,9 +1,9 @@
 -- From what a step of the desk hands back to what the step of a file does. Assumes nothing.
 use mathlib.Core.Path.{_≡_, refl, sym, ap, subst, _∙_}
-use mathlib.Core.List.{List}
+use mathlib.Core.List.{List, [], _∷_}
 use mathlib.Core.Bool.{Bool, true, false}
 use mathlib.Core.Option.{Option, none, some}
-use Prim.Native.Nat.{ℕ}
+use Prim.Native.Nat.{ℕ, suc}
 use lib.Dec.{eqb}
 use lib.ListN.{length, take, drop, replicate}
 use lib.Seq.{take-append-seam}
@@ -22,14 +22,14 @@ use Rattle.locks.specs.Lent.{Hierarchy}
 use Rattle.desk.specs.Steps.{granted as admitted, Admission, waits as queued, EnterResult, GetResult, PutResult, LeaveResult, afterLeaving}
 use Rattle.desk.specs.Steps.{leaveUnless, leaveRefusal, enterStep, getStep, putStep, addStep, leaveStep}
 use Rattle.desk.specs.Answers.{Enters, Gets, Puts, Adds, Leaves, enterMeaning, getMeaning, putMeaning, addMeaning, leaveMeaning}
-use Rattle.runs.specs.Run.{lend, restored, Call, leave, lentTo, Event, stored as wrote, added as summed, State, Moved, afterEnter, afterGet, afterPut, afterAdd, listed, afterLeave, moveCall, move}
+use Rattle.runs.specs.Run.{lend, restored, Call, leave, lentTo, Event, stored as wrote, added as summed, State, Moved, afterEnter, afterGet, afterPut, afterAdd, listed, afterLeave, moveCall, move, run, alsoRan}
 use Rattle.runs.proofs.Lends.{restored-full, put-length, add-length}
 use Rattle.runs.proofs.Exact.{call-exact}
 use Rattle.runs.proofs.Runs.{move-hierarchy}
 use Rattle.replay.specs.declared.Outcome.{Outcome}
 use Rattle.replay.specs.declared.Outcome.the-variants.{Refused}
 use Rattle.replay.specs.declared.Step.{Step}
-use Rattle.replay.specs.Replay.{enterCall, freshScratch, getCall, putCall, addCall, leaveCall, callOf, stepOf, StepAnswer, granted, waits, value}
+use Rattle.replay.specs.Replay.{enterCall, freshScratch, getCall, putCall, addCall, leaveCall, callOf, stepOf, StepAnswer, granted, waits, value, performAll, answersOf}
 use Rattle.replay.specs.Replay.{stored, added, left, refused, enterLine, getLine, putLine, addLine, leaveLine, answerIn, stateOf, isStep, performStep, performed, performIf, perform}
 use Rattle.replay.specs.Answers.{stepMeaning, outcomeOf, partiesOf, Performs}
 use Rattle.replay.specs.Inner.{leftOutcome, PerformsCall, PerformsAny}
@@ -197,3 +197,9 @@ performs-state H d values bytes values′ r = by (isStep bytes)
         let after : State = (performStep (stateOf H d values) bytes) .state in
         rw (f .desk, f .values-after) (ap (λ (K : Hierarchy). stateOf K (after .desk) (after .values)) (sym (move-hierarchy (stepOf bytes) (stateOf H d values))))
     by false f = rw (f .desk, f .values-after) refl
+
+-- as many answers as steps
+pub answers-length : (rs : List (List ℕ)) (s : State) → length (answersOf (performAll s rs)) ≡ length rs
+unfolding run alsoRan
+answers-length [] s = refl
+answers-length (r ∷ rs) s = ap suc (answers-length rs ((performStep s r) .state))

@@ -1,6 +1,6 @@
 -- An accepted file as cutting finds it: where its steps stand, and that the records of the shorter file fit. Then what cutting it comes to. Assumes nothing.
 use mathlib.Core.Path.{_≡_, refl, sym, ap, subst, _∙_}
-use mathlib.Core.Bool.{Bool, true, false, cond, _&&_}
+use mathlib.Core.Bool.{Bool, true, false, cond}
 use mathlib.Core.List.{List, [], _∷_, _++_, append-assoc}
 use mathlib.Core.Option.{Option, none, some}
 use Prim.Native.Nat.{ℕ, zero, suc, _+_, _-_, _*_, _/_, _<_, _≤_}
@@ -9,38 +9,24 @@ use borrow.Author.Tests.{ltb-false, lt-ltb, le-ltb}
 use lib.ListN.{length, take, drop, length-drop}
 use lib.Seq.{drop-drop, drop-nil, take-nil}
 use Rattle.lists.specs.Lists.{every, count}
+use Rattle.lists.proofs.Kept.{every-both, every-drop, every-keep, every-kept, every-take}
 use Rattle.lists.proofs.Loops.{keep-count}
 use Rattle.lists.specs.Answer.{Check, _when_, refused, refusal}
-use Rattle.lists.proofs.Bools.{and-left, and-right, and-both}
+use Rattle.lists.proofs.Numbers.{onward}
 use Rattle.lists.proofs.Refusals.{refusal-nil, refused-here, refused-later, refusal-none}
 use Rattle.blocks.specs.File.{fileChecks, fileRecords, FileResult, leaving, blocksFor, writeFile}
 use Rattle.locks.specs.Lent.{Hierarchy, lent}
 use Rattle.replay.specs.Replay.{eachRecord, recordList, edgeCountOf, stepRecords, isRecord, builtOf}
 use Rattle.replay.proofs.Records.{records-length}
 use Rattle.opening.specs.Opening.{fileRows, builtChecks}
-use Rattle.opening.proofs.Opens.{refusal-front, refusal-past, Ready}
+use Rattle.opening.proofs.Opens.{refusal-front, Ready}
 use Rattle.shorter.specs.declared.CutAnswer.{CutAnswer}
 use Rattle.shorter.specs.declared.CutAnswer.the-variants.{Refused}
 use Rattle.cutting.specs.Cut.{afterFirst, headRecords, valueRecords, cutRecords, tooFar, someoneAfter, cutRefusal, bytesOf, blocksOfAll, cutFile}
 use Rattle.shorter.specs.Inner.{stepsAt, keptBytes, Shaped, cutRun, Left, Runs}
-use Rattle.cutting.proofs.Parts.{ofHead, ofValue, ofStep, every-drop, every-keep, every-kept, three-kinds}
+use Rattle.cutting.proofs.Parts.{ofHead, ofValue, ofStep, three-kinds}
 use Rattle.cutting.proofs.Orders.{Taken, head-count, steps-behind}
 use Rattle.cutting.proofs.Writing.{sixteen, each-back, bytes-length, bytes-front, Accepted, accepted, cut-bytes, writable, cut-writes}
-
--- two tests that both hold of every element
-every-both : (p q : List ℕ → Bool) (rs : List (List ℕ)) → every p rs ≡ true → every q rs ≡ true → every (λ r. p r && q r) rs ≡ true
-unfolding every
-every-both p q [] a b = refl
-every-both p q (r ∷ rs) a b =
-    and-both (p r && q r) (every (λ r. p r && q r) rs) (and-both (p r) (q r) (and-left (p r) (every p rs) a) (and-left (q r) (every q rs) b))
-    (every-both p q rs (and-right (p r) (every p rs) a) (and-right (q r) (every q rs) b))
-
--- and of the first elements
-pub every-take : (p : List ℕ → Bool) (k : ℕ) (rs : List (List ℕ)) → every p rs ≡ true → every p (take k rs) ≡ true
-unfolding every
-every-take p zero rs a = refl
-every-take p (suc k) [] a = refl
-every-take p (suc k) (r ∷ rs) a = and-both (p r) (every p (take k rs)) (and-left (p r) (every p rs) a) (every-take p k rs (and-right (p r) (every p rs) a))
 
 -- the bytes of a part of the records
 bytes-part : (m k n : ℕ) (bytes : List ℕ) → length bytes ≡ 16 * n → bytesOf (take k (drop m (eachRecord n bytes))) ≡ take (16 * k) (drop (16 * m) bytes)
@@ -138,7 +124,7 @@ module _ (file : List ℕ) (k : ℕ) (room : List ℕ) where
     -- neither: 19, 20, or the shorter file
     module _ (read : refusal (fileChecks file) ≡ none) (built : refusal (builtChecks rows) ≡ none) where
       past-all : cutRefusal file k room ≡ refusal own
-      past-all = past-room ∙ refusal-past (fileChecks file ++ builtChecks rows) own (refusal-past (fileChecks file) (builtChecks rows) read ∙ built)
+      past-all = past-room ∙ onward (fileChecks file ++ builtChecks rows) own (onward (fileChecks file) (builtChecks rows) read ∙ built)
 
       abbrev kept : List ℕ
       kept = keptBytes (builtOf rows) (fileRecords file) k

@@ -9,6 +9,7 @@ use lib.Dec.{eqb}
 use lib.ListN.{length, drop, set, replicate, length-append}
 use lib.Seq.{drop-nil, set-append-seam, append-snoc}
 use Rattle.lists.specs.Lists.{every, keep, keptIf, count, one}
+use Rattle.lists.proofs.Kept.{every-drop, every-keep, keep-all, keep-none}
 use Rattle.lists.proofs.Bools.{and-left, and-right}
 use Rattle.lists.proofs.Loops.{keep-append}
 use Rattle.intervals.specs.Intervals.{intervalTable}
@@ -16,15 +17,9 @@ use Rattle.blocks.specs.Record.{kindOf, parentIn, childIn, valueNodeIn, valueIn
 use Rattle.locks.specs.Lent.{lent}
 use Rattle.replay.specs.Replay.{sizeOf, edgeIf, edgeTable, edgeCountOf, stepRecords, builtOf, withValue, valuesFrom, valuesIn}
 use Rattle.cutting.specs.Cut.{afterFirst, headRecords, valueRecord, valueRecords, cutRecords}
-use Rattle.cutting.proofs.Parts.{keep-none, every-keep, every-drop, ofHead, ofValue, ofStep, head-no-value, head-no-step, value-no-head, value-no-step, step-no-head, step-no-value}
+use Rattle.cutting.proofs.Parts.{ofHead, ofValue, ofStep, head-no-value, head-no-step, value-no-head, value-no-step, step-no-head, step-no-value}
 use Rattle.cutting.proofs.Orders.{Taken, first-head, value-back}
 use Rattle.cutting.proofs.Doing.{values-long}
-
--- all of a list are kept
-keep-all : {A : Type 0} (p : A → Bool) (xs : List A) → every p xs ≡ true → keep p xs ≡ xs
-unfolding keep every
-keep-all p [] h = refl
-keep-all {A} p (x ∷ xs) h = rw (and-left (p x) (every p xs) h) (ap (λ (l : List A). x ∷ l) (keep-all p xs (and-right (p x) (every p xs) h)))
 
 -- THE EDGES are those of the head
 no-edge : (r : List ℕ) → ofHead r ≡ false → eqb (kindOf r) 2 ≡ false
@@ -59,7 +54,7 @@ values-none (r ∷ rs) values h =
     ∙ values-none rs values (and-right (not (ofValue r)) (every (λ r. not (ofValue r)) rs) h)
 
 -- THE VALUES are those of the value records
-values-kept : (rs : List (List ℕ)) (values : List ℕ) → valuesFrom values (keep ofValue rs) ≡ valuesFrom values rs
+pub values-kept : (rs : List (List ℕ)) (values : List ℕ) → valuesFrom values (keep ofValue rs) ≡ valuesFrom values rs
 unfolding valuesFrom keep
 values-kept [] values = refl
 values-kept (r ∷ rs) values = by (ofValue r) refl (values-kept rs)
@@ -70,7 +65,7 @@ values-kept (r ∷ rs) values = by (ofValue r) refl (values-kept rs)
     by false e ih = ih values ∙ ap (λ (c : Bool). valuesFrom (cond c (set values (valueNodeIn r) (valueIn r)) values) rs) (sym e)
 
 -- value records of values, read over zeros, give the values back
-values-over : (front values : List ℕ) → valuesFrom (front ++ replicate (length values) 0) (valueRecords (length front) values) ≡ front ++ values
+pub values-over : (front values : List ℕ) → valuesFrom (front ++ replicate (length values) 0) (valueRecords (length front) values) ≡ front ++ values
 unfolding valuesFrom valueRecords
 values-over front [] = refl
 values-over front (v ∷ values) =

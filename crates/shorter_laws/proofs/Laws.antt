@@ -3,12 +3,12 @@ use mathlib.Core.Path.{_≡_, refl, sym, ap, ap₂, subst, _∙_}
 use mathlib.Core.List.{List, [], _∷_, _++_, map, map-append}
 use mathlib.Core.Bool.{Bool, false, not, cond}
 use mathlib.Core.Option.{Option, none}
-use Prim.Native.Nat.{ℕ, suc, _+_, _-_, _*_, _/_, _≤_, _<_}
+use Prim.Native.Nat.{ℕ, _+_, _-_, _*_, _/_, _≤_, _<_}
 use native.Mathlib.Omega.{arith}
 use borrow.Author.Tests.{ltb-true, ltb-false, lt-ltb, le-ltb, not-false}
 use lib.Dec.{ltb}
 use lib.ListN.{length, getD, take, drop, replicate, length-take, length-drop, length-map, length-replicate, take-append-drop}
-use lib.Seq.{take-all, take-at, take-add, drop-at, drop-drop, length-take-le}
+use lib.Seq.{take-all, take-add, drop-at, drop-drop, length-take-le}
 use Rattle.lists.specs.Lists.{over}
 use Rattle.lists.specs.Answer.{done, refused, Check, _when_, refusal, roomAfter}
 use Rattle.lists.proofs.Bools.{bool}
@@ -23,10 +23,11 @@ use Rattle.locks.specs.Stages.{isOut}
 use Rattle.locks.specs.Lent.{Hierarchy}
 use Rattle.desk.specs.Desks.{stageAt}
 use Rattle.soundness.proofs.Covers.{is-out}
-use Rattle.runs.specs.Run.{Step, State, start, move, Ran, alsoRan, run}
+use Rattle.runs.specs.Run.{Step, State, start, Ran, run}
 use Rattle.onward.specs.Onward.{counted, followedBy, Idle}
 use Rattle.onward.proofs.Onward.{run-onward, run-twice}
 use Rattle.onward.proofs.Sums.{grants-sum}
+use Rattle.replay.proofs.Outcomes.{answers-length}
 use Rattle.replay.specs.Replay.{eachRecord, recordList, sizeOf, stepRecords, builtOf, stepOf, answerIn, answersOf, valuesIn, startOf, performAll, fileRun, runUnless, runRecords, fileUnless, runFile}
 use Rattle.opening.specs.Opening.{fileRows, builtChecks}
 use Rattle.opening.proofs.Opens.{done-by}
@@ -41,11 +42,6 @@ use Rattle.shorter_laws.proofs.Cuts.{cut-head, cut-steps, cut-built, cu
 -- OF RECORDS. Steps as a run has them
 abbrev stepsOf : List (List ℕ) → List Step
 stepsOf rs = map stepOf rs
-
-answers-length : (rs : List (List ℕ)) (s : State) → length (answersOf (performAll s rs)) ≡ length rs
-unfolding run alsoRan
-answers-length [] s = refl
-answers-length (r ∷ rs) s = ap suc (answers-length rs ((move (stepOf r) s) .state))
 
 -- nobody holds or waits
 idle-after : (rs : List (List ℕ)) (k : ℕ) → someoneAfter rs k ≡ false → Idle ((afterFirst rs k) .desk)
@@ -169,11 +165,6 @@ file-run : (file : List ℕ) → refusal (fileChecks file) ≡ none → refusal 
 unfolding runFile runRecords
 file-run file read legal = ap (λ (o : Option ℕ). fileUnless o file) read ∙ ap (λ (o : Option ℕ). runUnless o (fileRows file)) legal
 
--- the front of a room after a write is what was written
-written : (bytes room : List ℕ) (n : ℕ) → length bytes ≡ n → take n (over bytes room) ≡ bytes
-unfolding over
-written bytes room n h = take-at bytes (drop (length bytes) room) n h
-
 -- what was written is accepted, and reading gives it back
 reads-back : (bytes : List ℕ) (n : ℕ) (room : List ℕ) (m : ℕ) → length bytes ≡ 16 * n → (writeFile bytes n room) .answer ≡ done m
     → let f = take (512 * m) ((writeFile bytes n room) .room) in (refusal (fileChecks f) ≡ none) × (fileRecords f ≡ bytes)
@@ -189,9 +180,9 @@ reads-back bytes n room m l e =
     let whole = read-whole f places n answer in
     let none-of = done-by (readRefusal f places) (length (fileRecords f) / 16) answer .0 in (
       later-none (1 when ltb (length places) (496 * wholeBlocks f) ∷ fileChecks f) 1 none-of,
-      sym (written (fileRecords f) places (16 * n) (whole .0))
+      sym (over-front (fileRecords f) places (16 * n) (whole .0))
           ∙ ap (take (16 * n)) (sym (whole .2) ∙ ap (λ (x : FileResult). x .room) back)
-          ∙ written (take (16 * n) bytes) places (16 * n) (length-take-le (16 * n) bytes (omega arith))
+          ∙ over-front (take (16 * n) bytes) places (16 * n) (length-take-le (16 * n) bytes (omega arith))
           ∙ take-all (16 * n) bytes (omega arith),
     )
 

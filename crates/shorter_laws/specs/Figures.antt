@@ -90,13 +90,17 @@ figures =
     ∷ is (cutting 512 (tree ++ first) 5) 0
     ∷ is (cutting 512 tree 0) 0
     ∷ is (cutting 1024 twoBlocks 30) 0
-    -- 1, room a byte shorter than the file, also where one block is left of two
+    -- 1, room a byte shorter than the file, also where one block is left of two, and before 2
+    ∷ is (numberOf (cutRefusal (replicate 513 0) 0 (replicate 512 7))) 1
+    ∷ is (numberOf (cutRefusal (replicate 513 0) 0 (replicate 513 7))) 2
     ∷ is (cutting 511 calls 15) 1
     ∷ is (cutting 1023 twoBlocks 30) 1
-    -- 19, k above the number of steps; before 20, since 2 holds after all 17
+    -- 19, k above the number of steps: of a file without steps, k = 1; before 20, since 2 holds after all 17
+    ∷ is (cutting 512 (size 1 ∷ []) 1) 19
     ∷ is (cutting 512 (tree ++ first) 6) 19
     ∷ is (cutting 512 calls 18) 19
-    -- 20: 1 holds; it holds and 2 waits; 2 holds; and after the last step; the first party, and the last
+    -- 20: of n = 1, 1 writes in 0; 1 holds; it holds and 2 waits; 2 holds; and after the last step; the first party, and the last
+    ∷ is (cutting 512 (size 1 ∷ enter1 1 2 0 ∷ []) 1) 20
     ∷ is (cutting 512 calls 1) 20
     ∷ is (cutting 512 calls 3) 20
     ∷ is (cutting 512 calls 4) 20
@@ -108,6 +112,7 @@ figures =
     -- before these what the file or building is refused for, 1 before all
     ∷ is (cutting 512 (tree ++ (valueAt 3 9 ∷ [])) 1) 4
     ∷ is (cutting 512 (size 3 ∷ edge 0 1 ∷ []) 1) 9
+    ∷ is (cutting 512 (size 3 ∷ edge 0 1 ∷ valueAt 3 9 ∷ []) 1) 4
     ∷ is (cutting 511 (tree ++ (valueAt 3 9 ∷ [])) 1) 1
     -- reading: 4 for a node not below n, a node twice, nodes not ascending, a zero, a value before an edge, one behind a step, and bytes 2, 3 and 12
     ∷ is (reading (tree ++ (valueAt 1 9 ∷ valueAt 2 9 ∷ []))) 0

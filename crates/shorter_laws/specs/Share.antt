@@ -44,7 +44,7 @@ pub record CutWell (file : List ℕ) (k : ℕ) (short : List ℕ) : Type 0 where
   pub accepted : refusal (fileChecks short) ≡ none
   -- and gives the records of the cut
   pub records : fileRows short ≡ cutRecords (fileRows file) k
-  -- it starts from the values after the first k steps, and so do demand 3 and performing the book
+  -- it starts from the values after the first k steps; so does demand 3 of it (`cut-file-serial`, proofs/Serials)
   pub starts : valuesIn (sizeOf (fileRows short)) (fileRows short) ≡ (afterFirst (fileRows file) k) .values
   -- never more blocks than the input
   pub blocks : wholeBlocks short ≤ wholeBlocks file

@@ -110,6 +110,7 @@ use Rattle.needless_laws.proofs.Needless as none-needless
 use Rattle.shorter_laws.proofs.Cuts as shorter-parts
 use Rattle.shorter_laws.proofs.Laws as cuts
 use Rattle.shorter_laws.proofs.Serials as cut-serials
+use Rattle.shorter_laws.proofs.Whole as cut-whole
 use Rattle.examples.proofs.Starred as computed
 
 -- DEMAND 1, as far as it is not a contract: a refusal changes nothing (but the scratch of a search: point 6 below). Of enter, the desk
@@ -1076,18 +1077,22 @@ cut-runs file k room m e =
     )
 
 -- Demand 3 of the shorter file, and performing its book, start from the values at the cut
-cut-serial : (file : List ℕ) (k : ℕ) (room : List ℕ) (m : ℕ) → (cutFile file k room) .answer ≡ done m
+cut-file-serial : (file : List ℕ) (k : ℕ) (room : List ℕ) (m : ℕ) → (cutFile file k room) .answer ≡ done m
     → let short = take (512 * m) ((cutFile file k room) .room) in let records = recordList (fileRecords file) in let rest = recordList (fileRecords short) in
     let first = performAll (startOf (builtOf records) records) (take k (stepRecords records)) in
     let after = performAll (startOf (builtOf rest) rest) (stepRecords rest) in
     (valuesIn (sizeOf rest) rest ≡ first .state .values) × Claims (first .state .values) (eventsOf (stepRecords rest) (answersOf after)) (after .state .values)
-cut-serial file k room m e =
+cut-file-serial file k room m e =
     let w = cuts.cut-well file k room m e in (w .starts, claims (cut-serials.cut-file-serial file k (take (512 * m) ((cutFile file k room) .room)) w))
 
+-- Cutting after no step gives the very file
+cut-nothing : (file room : List ℕ) → Below 256 file → cutRefusal file 0 room ≡ none → cutFile file 0 room ≡ record { answer = done (wholeBlocks file); room = over file room }
+cut-nothing = cut-whole.cut-nothing
+
 -- Where the cut after j steps is not refused, cutting its file after k, into a room as long as the first input, is cutting after j + k, refusals too
-cut-twice : (file : List ℕ) (j k : ℕ) (room room′ : List ℕ) (m : ℕ) → (cutFile file j room) .answer ≡ done m → length file ≤ length room′
+cut-file-twice : (file : List ℕ) (j k : ℕ) (room room′ : List ℕ) (m : ℕ) → (cutFile file j room) .answer ≡ done m → length file ≤ length room′
     → cutFile (take (512 * m) ((cutFile file j room) .room)) k room′ ≡ cutFile file (j + k) room′
-cut-twice = cuts.cut-file-twice
+cut-file-twice = cuts.cut-file-twice
 
 -- THE STARRED CASES, with the papers' figures, those of {8}, of the ninth case and of the listing as document 02's points 1 and 4 have them: each passes, by computation. Table T and
 -- the table of the ninth case

@@ -4,14 +4,14 @@ use Prim.Native.Nat.{_-_, _≤_, min}
 use native.Mathlib.Omega.{arith}
 use borrow.Author.Needs.{needs}
 use lib.ListN.{length, drop}
-use Rattle.numerals.specs.Numerals.{numberFrom, numberOf}
+use Rattle.numerals.specs.Numerals.{decimalFrom, decimalNumber}
 use Rattle.numerals.proofs.Digits.{digit-turn, digits-end}
 use Rattle.numerals.proofs.number_in.Statement.{statement}
 use Rattle.numerals.proofs.number_in.Tie as tie
 
 abbrev Inv-loop : tie.InvT-loop
 Inv-loop text x₀ i₀ x i =
-    (i ≤ length text) × (x ≤ 18446744073709551615) × (min (numberFrom x (drop i text)) 18446744073709551615 ≡ min (numberOf text) 18446744073709551615)
+    (i ≤ length text) × (x ≤ 18446744073709551615) × (min (decimalFrom x (drop i text)) 18446744073709551615 ≡ min (decimalNumber text) 18446744073709551615)
 
 abbrev μ-loop : tie.MeasureT-loop
 μ-loop text x₀ i₀ x i = length text - i

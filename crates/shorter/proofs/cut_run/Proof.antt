@@ -6,10 +6,10 @@ use native.Mathlib.Omega.{arith}
 use lib.ListN.{length}
 use borrow.Author.Needs.{needs}
 use Rattle.lists.specs.Lists.{every}
+use Rattle.lists.proofs.Kept.{every-take}
 use Rattle.locks.specs.Lent.{Hierarchy, lent}
 use Rattle.replay.specs.Replay.{recordList, isStep, valuesIn}
 use Rattle.shorter.specs.Inner.{shortBytes, stepsAt, Wrote}
-use Rattle.shorter.proofs.Shapes.{every-take}
 use Rattle.shorter.proofs.Cuts.{steps-at, first-steps, too-far, same-values, someone-in, nobody-in}
 use Rattle.shorter.proofs.cut_run.Statement.{statement}
 use Rattle.shorter.proofs.cut_run.Tie as tie

@@ -1,6 +1,5 @@
 -- `perform_steps` meets its contract: the steps left, from the desk and values reached, lead where all of them lead from a fresh desk. Assumes nothing.
 use mathlib.Core.Path.{_≡_, refl, ap, _∙_}
-use mathlib.Core.List.{[]}
 use Prim.Native.Nat.{_-_, _/_, _≤_}
 use native.Mathlib.Omega.{arith}
 use lib.ListN.{length, drop}
