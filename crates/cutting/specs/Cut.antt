@@ -19,7 +19,7 @@ use Rattle.opening.specs.Opening.{fileRows, builtChecks}
 abbrev pub ranFirst : List (List ℕ) → ℕ → Ran
 ranFirst rs k = performAll (startOf (builtOf rs) rs) (take k (stepRecords rs))
 
--- the desk and the values after them
+-- hierarchy, desk and values after them
 abbrev pub afterFirst : List (List ℕ) → ℕ → State
 afterFirst rs k = (ranFirst rs k) .state
 

@@ -14,7 +14,7 @@ isDigit b = leb 48 b && leb b 57
 abbrev pub isDecimal : List ℕ → Bool
 isDecimal text = not (eqb (length text) 0) && every isDigit text
 
--- the number behind another that the digits before it stand for
+-- the number that digits stand for, those before them standing for x
 unfoldable pub decimalFrom : ℕ → List ℕ → ℕ
 decimalFrom x [] = x
 decimalFrom x (b ∷ text) = decimalFrom (10 * x + (b - 48)) text

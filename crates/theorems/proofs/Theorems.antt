@@ -5,7 +5,7 @@
 use mathlib.Core.Path.{_≡_, refl, sym, ap, subst, _∙_}
 use mathlib.Core.Logic.{_⊎_, inl, inr}
 use mathlib.Core.List.{List, [], _∷_, _++_, map}
-use mathlib.Core.Bool.{Bool, true, false, not, cond, and-false}
+use mathlib.Core.Bool.{Bool, true, false, not, cond, _&&_, and-false}
 use mathlib.Core.Option.{Option, none, some}
 use Prim.Native.Nat.{ℕ, zero, suc, _+_, _*_, _%_, _^_, _≤_, _<_, min, max}
 use native.Mathlib.Omega.{arith}
@@ -20,7 +20,11 @@ use Rattle.intervals.specs.Intervals.{lowOf, highOf, intervalTable}
 use Rattle.intervals.specs.Build.{buildStep}
 use Rattle.intervals.specs.declared.Interval.{Interval}
 use Rattle.intervals.specs.Cover.{lowAt, highAt, intervalAt, callInterval, contains, width, closest, coverOf}
-use Rattle.blocks.specs.Record.{kindOf}
+use Rattle.blocks.specs.declared.ReadStage.{ReadStage}
+use Rattle.blocks.specs.Record.{kindOf, faulty}
+use Rattle.blocks.specs.Block.{afterRecord}
+use Rattle.block_laws.proofs.ByKind.{oneOfEight, ordered, inTurn, pastRecord}
+use Rattle.block_laws.proofs.ByKind as kinds-spelt
 use Rattle.blocks.specs.File.{wholeBlocks, fileChecks, leaving, readFile, blocksFor, writeFile}
 use Rattle.locks.specs.declared.Mode.{Mode}
 use Rattle.locks.specs.declared.Mode.the-variants.{Reading, Writing, Adding}
@@ -1016,7 +1020,14 @@ paper-passes-nobody = shams.paper-passes-nobody
 others-pass-over : (PassesNobody newcomersPass ahead → ⊥) × (PassesNobody fromTheBack ahead → ⊥) × (PassesNobody paperRules onlyHolders → ⊥)
 others-pass-over = (shams.newcomers-pass-over, shams.back-passes-over, shams.only-holders-pass-over)
 
--- 02, POINT 9. NINETY DAYS, THEN SHORTER FILES. A file that has no value record starts from zeros, as before,
+-- 02, POINT 9. NINETY DAYS, THEN SHORTER FILES. What reading makes of one record more, by its kind: a refusal stays; one that is right (`oneOfEight`: a value record has zeros in bytes 2, 3 and 12 on, and a
+-- value that is not zero), in order (`ordered`: the size record, edges, values, steps) and, if it is a value, in turn (`inTurn`: above the value before it, and below n) leads on; any other is 4. These
+-- terms are in block_laws/proofs/ByKind
+after-by-kind : (t : ReadStage) (r : List ℕ)
+    → afterRecord t r ≡ cond (eqb (t .wrong) 0) (cond (oneOfEight (kindOf r) r && (ordered t (kindOf r) && inTurn t (kindOf r) r)) (pastRecord t (kindOf r) r) (faulty 4 t)) t
+after-by-kind = kinds-spelt.after-by-kind
+
+-- A file that has no value record starts from zeros, as before,
 no-values-zeros : (n : ℕ) (records : List (List ℕ)) → every (λ r. not (eqb (kindOf r) 8)) records ≡ true → valuesIn n records ≡ replicate n 0
 no-values-zeros n records none-of = shorter-parts.values-none records (replicate n 0) none-of
 
@@ -1033,6 +1044,13 @@ cut-refusals : (file : List ℕ) (k : ℕ) (room : List ℕ)
     ∷ 20 when anyBelow 32 (λ party. not (isOut (stageAt (first .state .desk) party)))
     ∷ []))))
 cut-refusals file k room = refl
+
+-- where none applies the shorter file's blocks are counted and put in front of the room,
+cut-given : (file : List ℕ) (k : ℕ) (room : List ℕ) → cutRefusal file k room ≡ none → let kept = cutRecords (recordList (fileRecords file)) k in
+    cutFile file k room ≡ record { answer = done (blocksFor (length kept)); room = over (blocksOfAll kept) room }
+unfolding cutFile
+cut-given file k room e =
+    ap (λ (o : Option ℕ). leaving o (blocksFor (length (cutRecords (recordList (fileRecords file)) k))) (blocksOfAll (cutRecords (recordList (fileRecords file)) k)) room) e
 
 -- and a refusal leaves the room as it was
 cut-unchanged : (file : List ℕ) (k : ℕ) (room : List ℕ) (j : ℕ) → cutRefusal file k room ≡ some j → cutFile file k room ≡ record { answer = refused j; room = room }
