@@ -179,12 +179,13 @@ def read_files(program):
 
 
 def read_cuts(names):
-    """The same of the cuts: each line of each NAME.cuts, then each file at 0."""
+    """The same of the cuts: each line of each NAME.cuts, and each file at 0 where no line says so."""
     data, cuts = {name: content(name + ".blocks") for name in names}, []
     for name in names:
         lines = content(name + ".cuts").decode().splitlines() if os.path.exists(os.path.join(FILES, name + ".cuts")) else []
-        first = content(name + ".listing").split()[:2]
-        lines.append(f"0 refused {first[1].decode()}" if first[0] == b"refused" else f"0 {name}")
+        if not any(line.split()[0] == "0" for line in lines):
+            first = content(name + ".listing").split()[:2]
+            lines.append(f"0 refused {first[1].decode()}" if first[0] == b"refused" else f"0 {name}")
         for line in lines:
             k, result, *number = line.split()
             cuts.append((f"{name} at {k}", (data[name], int(k)), int(number[0]) if number else data[result]))
