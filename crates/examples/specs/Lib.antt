@@ -1,9 +1,4 @@
 pub mod Cases
 pub mod Table
 pub mod Rows
-pub mod Edges
-pub mod Hierarchies
-pub mod Files
-pub mod Visits
-pub mod Steps
-pub mod Names
+pub mod Desks

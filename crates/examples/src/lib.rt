@@ -1,1 +1,1 @@
-// Tables of cases (specs), each covered by one theorem (proofs): the starred cases, each condition at its edge, hierarchies, files, visits, steps. No function is here.
+// The table of the starred cases (specs/Table.antt), covered by one theorem (proofs/Starred.antt), and what all tables are made of: cases, rows, desks by hand. No function is here.

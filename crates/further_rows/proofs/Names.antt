@@ -10,9 +10,9 @@ use Rattle.parties.specs.Sound.{soundParties}
 use Rattle.sweeps.specs.Sweeps.{offer, sweep}
 use Rattle.desk.specs.Steps.{enterStep, getStep, putStep, addStep, leaveStep}
 use Rattle.runs.specs.Run.{listed}
 use Rattle.examples.specs.Cases.{sameNumbers, asNumbers, sameAnswers}
 use Rattle.examples.specs.Rows.{right}
-use Rattle.examples.specs.Names.{called, deskNames, scratches}
+use Rattle.further_rows.specs.Names.{called, deskNames, scratches}
 
 pub all-called : every right called ≡ true
 unfolding allBelow anyBelow every any over foldFrom least greatest refusal someEdge spread spreads reach closest insert insertAll risesFrom soundParties

@@ -14,8 +14,7 @@ use Rattle.locks.specs.declared.Mode.{Mode}
 use Rattle.locks.specs.declared.Mode.the-variants.{Reading, Writing, Adding}
 use Rattle.locks.specs.declared.Stage.the-variants.{Waiting, Holding}
 use Rattle.desk.specs.declared.Desk.{Desk}
-use Rattle.naming.specs.declared.Names.{Names}
-use Rattle.naming.specs.Names.{placesOf, namesAt, named}
+use Rattle.naming.specs.Names.{named}
 use Rattle.locks.specs.Locks.{conflictCall}
 use Rattle.locks.specs.Lent.{Hierarchy, lent, tablesShort, intervalWrong}
 use Rattle.parties.specs.Parties.{entryOf}
@@ -25,14 +24,10 @@ use Rattle.desk.specs.Sound.{soundDesk}
 use Rattle.grants.specs.Grants.{noGrants, oneGrantMore}
 use Rattle.desk.specs.Steps.{enterRefusal, valueChecks, getOwn, putOwn, addOwn, sum64, leaveRefusal}
 use Rattle.replay.specs.Replay.{granted, waits, value, stored, added, left, refused}
 use Rattle.examples.specs.Cases.{Case, listing}
 use Rattle.examples.specs.Rows.{Row, is, are}
 use Rattle.examples.specs.Table.{bytes16, edge, enter1, get, put, leave, add, valueAt, size}
-use Rattle.examples.specs.Steps.{locked, lock, seat, list}
-
--- names with another count
-abbrev pub recounted : Names → ℕ → Names
-recounted m count = namesAt (placesOf m) count
+use Rattle.examples.specs.Desks.{recounted, locked, lock, seat, list}
 
 -- two nodes and one edge, with these intervals
 abbrev pub two : List ℕ → Hierarchy

@@ -8,9 +8,9 @@ use Rattle.intervals.specs.Numbering.{meet, visit, inside, walk, numbering}
 use Rattle.intervals.specs.Intervals.{numbersAmong, lowOf, highOf, intervalsFrom, intervalTable}
 use Rattle.intervals.specs.Cover.{closest}
 use Rattle.intervals.specs.Build.{buildStep}
 use Rattle.examples.specs.Cases.{sameNumbers, unrefused, wrote, passes}
 use Rattle.examples.specs.Rows.{right}
-use Rattle.examples.specs.Hierarchies.{hierarchies, small}
+use Rattle.further_rows.specs.Hierarchies.{hierarchies, small}
 
 pub all-hierarchies : every right hierarchies ≡ true
 unfolding every any over foldFrom least greatest refusal children someEdge spread spreads reach edgeTwice someUnreached meet visit inside

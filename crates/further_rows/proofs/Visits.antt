@@ -1,4 +1,4 @@
--- VISITS OF T AS FILES, the refusals 11 to 18 at their edges among them: what their steps answer is what the definitions give, by computation. Assumes nothing.
+-- VISITS OF T AS FILES: what their steps answer is what the definitions give, by computation. Assumes nothing.
 use mathlib.Core.Path.{_≡_, refl}
 use mathlib.Core.Bool.{true}
 use Rattle.lists.specs.Lists.{allBelow, anyBelow, every, any, keep, count, over, foldFrom, least, greatest, sum}
@@ -18,18 +18,8 @@ use Rattle.grants.specs.Grants.{countGrants}
 use Rattle.desk.specs.Steps.{enterStep, getStep, putStep, addStep, leaveStep}
 use Rattle.runs.specs.Run.{lend, restored, lentTo, afterEnter, afterGet, afterPut, afterAdd, listed, afterLeave, moveCall, move, alsoRan, run}
 use Rattle.replay.specs.Replay.{eachRecord, edgeTable, valuesFrom, runRecords, runFile}
 use Rattle.examples.specs.Cases.{sameNumbers, asNumbers, sameAnswers, withGrants, gave, passes}
-use Rattle.examples.specs.Edges.{fileEdges, stepEdges}
-use Rattle.examples.specs.Visits.{visits}
-
-pub all-step-edges : passes stepEdges ≡ true
-unfolding allBelow anyBelow every any keep count sum over foldFrom least greatest refusal children someEdge spread spreads reach edgeTwice
-    someUnreached meet visit inside walk numbering numbersAmong lowOf highOf intervalsFrom intervalTable closest words sums fletcher
-    enterRight kinds rowIn valueRight recordRight afterRecord afterRecords countRight headRight afterBlock recordsIn blockBody blockOf afterBlocks
-    recordsOf notBlocks blocksOf insert insertAll risesFrom soundParties enterStep getStep putStep addStep offer sweep countGrants leaveStep eachRecord edgeTable valuesFrom lend restored lentTo afterEnter afterGet afterPut afterAdd listed afterLeave
-    moveCall move alsoRan run
-    runRecords runFile sameNumbers asNumbers sameAnswers withGrants gave passes fileEdges stepEdges
-all-step-edges = refl
+use Rattle.further_rows.specs.Visits.{visits}
 
 pub all-visits : every passes visits ≡ true
 unfolding allBelow anyBelow every any keep count sum over foldFrom least greatest refusal children someEdge spread spreads reach edgeTwice

@@ -10,17 +10,17 @@ use Rattle.locks.specs.declared.Stage.{Stage}
 use Rattle.locks.specs.declared.Stage.the-variants.{Out, Waiting, Holding}
 use Rattle.parties.specs.declared.Entry.{Entry}
 use Rattle.desk.specs.declared.Desk.{Desk}
-use Rattle.naming.specs.Names.{placesOf, named}
+use Rattle.naming.specs.Names.{placesOf}
 use Rattle.locks.specs.Lent.{Hierarchy, lent}
-use Rattle.parties.specs.Parties.{entryOf}
 use Rattle.desk.specs.Desks.{freshDesk}
 use Rattle.desk.specs.Sound.{soundDesk}
 use Rattle.locks.specs.Locks.{modeNumber}
 use Rattle.desk.specs.Steps.{enterStep, getStep, PutResult, putStep, addStep, LeaveResult, leaveStep}
 use Rattle.runs.specs.Run.{listed}
 use Rattle.replay.specs.Replay.{StepAnswer, granted, waits, value, stored, added, left, refused, enterLine, getLine, putLine, addLine, leaveLine, stateOf, perform}
 use Rattle.examples.specs.Table.{T, bytes16, size, edge, enter1, get, put, leave, add}
 use Rattle.examples.specs.Rows.{Row, is, are, answer}
+use Rattle.examples.specs.Desks.{locked, lock, seat, list, counting, granting}
 
 -- T's intervals
 abbrev pub intervalsT : List ℕ
@@ -29,30 +29,6 @@ intervalsT = 1 ∷ 4 ∷ 1 ∷ 2 ∷ 3 ∷ 4 ∷ 1 ∷ 1 ∷ 2 ∷ 2 ∷ 3 ∷ 3
 -- T as it is lent
 abbrev pub tableT : Hierarchy
 tableT = lent 10 intervalsT T 11
-
--- a lock, with these names
-abbrev pub locked : Mode → ℕ → ℕ → ℕ → List ℕ → Lock
-locked mode cover low high names = record { mode = mode; cover = cover; low = low; high = high; names = named names }
-
--- one that names its cover
-abbrev pub lock : Mode → ℕ → ℕ → ℕ → Lock
-lock mode cover low high = locked mode cover low high (cover ∷ [])
-
--- DESKS BY HAND. With another stage for a party
-abbrev pub seat : Desk → ℕ → Stage → Desk
-seat d party stage = record { entries = set (d .entries) party (entryOf stage); queue = d .queue; waiting = d .waiting; grants = d .grants }
-
--- with a number more in the arrival list
-abbrev pub list : Desk → ℕ → Desk
-list d party = record { entries = d .entries; queue = set (d .queue) (d .waiting) party; waiting = d .waiting + 1; grants = d .grants }
-
--- with another count of waiting parties
-abbrev pub counting : Desk → ℕ → Desk
-counting d waiting = record { entries = d .entries; queue = d .queue; waiting = waiting; grants = d .grants }
-
--- with another count of a party's grants
-abbrev pub granting : Desk → ℕ → ℕ → Desk
-granting d party count = record { entries = d .entries; queue = d .queue; waiting = d .waiting; grants = set (d .grants) party count }
 
 -- a desk after three enters: 1 writes in 5, for 7, 3 reads 3, and 2 waits to read in 2, for 6
 abbrev pub three : Desk

@@ -13,10 +13,10 @@ use Rattle.desk.specs.declared.Desk.{Desk}
 use Rattle.desk.specs.Desks.{freshDesk}
 use Rattle.desk.specs.Steps.{enterStep, getStep, putStep, addStep}
 use Rattle.replay.specs.Replay.{StepAnswer, value, stored, added, refused, getLine, putLine, addLine}
 use Rattle.examples.specs.Rows.{Row, is, are, answer}
 use Rattle.examples.specs.Table.{T}
-use Rattle.examples.specs.Steps.{intervalsT, tableT, locked, lock, seat, counting, four, adders, sound, allFive, all}
-use Rattle.examples.specs.Edges.{recounted}
+use Rattle.examples.specs.Desks.{recounted, locked, seat, counting}
+use Rattle.further_rows.specs.Steps.{intervalsT, tableT, four, adders, sound, allFive, all}
 
 -- node 0 with the nine leaves 1 to 9: leaf i has the interval [i,i]
 abbrev pub star : Hierarchy

@@ -12,9 +12,9 @@ use Rattle.grants.specs.Grants.{countGrants}
 use Rattle.desk.specs.Steps.{enterStep, getStep, putStep, addStep, leaveStep}
 use Rattle.blocks.specs.Record.{enterRight, valueRight, kinds, rowIn, recordRight}
 use Rattle.runs.specs.Run.{lend, restored, lentTo, afterEnter, afterGet, afterPut, afterAdd, listed, afterLeave, moveCall, move}
 use Rattle.examples.specs.Cases.{sameNumbers, asNumbers, sameAnswers}
 use Rattle.examples.specs.Rows.{right}
-use Rattle.examples.specs.Steps.{allStages, deskNumbers, steps, tables, desks, records}
+use Rattle.further_rows.specs.Steps.{allStages, deskNumbers, steps, tables, desks, records}
 
 pub all-steps : every right steps ≡ true
 unfolding allBelow anyBelow every any keep over foldFrom least greatest refusal someEdge spread spreads reach closest insert insertAll risesFrom soundParties enterStep getStep putStep addStep offer

@@ -7,8 +7,8 @@ use Rattle.octets.specs.Fletcher.{words, sums, fletcher}
 use Rattle.blocks.specs.Record.{enterRight, kinds, rowIn, valueRight, recordRight}
 use Rattle.blocks.specs.Block.{afterRecord, afterRecords, countRight, headRight, afterBlock}
 use Rattle.blocks.specs.File.{afterBlocks, notBlocks}
 use Rattle.examples.specs.Rows.{right}
-use Rattle.examples.specs.Files.{files}
+use Rattle.further_rows.specs.Files.{files}
 
 pub all-files : every right files ≡ true
 unfolding every refusal words sums fletcher enterRight kinds rowIn valueRight recordRight afterRecord afterRecords countRight headRight afterBlock
