@@ -108,7 +108,7 @@ fn say_intervals(line: &[u8], places: &[u16]) {
     let end = number(line, 6);
     let mut node = number(line, 5);
     while node < end {
-        let i = intervals::interval_at(places, node);
+        let i = covers::interval_at(places, node);
         say(b", ", i.low as usize);
         say(b" ", i.high as usize);
         node += 1;
@@ -197,7 +197,7 @@ fn cover_line(line: &[u8]) {
     fill(line, 5, 0, &mut table);
     let named = front(&names, number(line, 2));
     let held = front(&table, number(line, 1));
-    say(b": ", intervals::cover(number(line, 0), held, named));
+    say(b": ", covers::cover(number(line, 0), held, named));
 }
 
 // Says whether a node is in the reach of 3 or of 6, of ten nodes with the line's eleven edges, and what that leaves in flags of 9.

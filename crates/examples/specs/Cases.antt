@@ -8,7 +8,7 @@ use Rattle.lists.specs.Lists.{sum}
 use Rattle.lists.specs.Answer.{Answer, done, refused as denied}
 use Rattle.hierarchy.specs.Hierarchy.{reach}
 use Rattle.intervals.specs.Build.{BuildResult, buildStep}
-use Rattle.intervals.specs.Cover.{lowAt, highAt, coverOf}
+use Rattle.covers.specs.Cover.{lowAt, highAt, coverOf}
 use Rattle.blocks.specs.File.{fileOf}
 use Rattle.replay.specs.Replay.{StepAnswer, granted, waits, value, stored, added, left, refused, FileRun, runFile}
 

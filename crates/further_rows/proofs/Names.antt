@@ -4,7 +4,7 @@ use mathlib.Core.Bool.{true}
 use Rattle.lists.specs.Lists.{allBelow, anyBelow, every, any, keep, over, foldFrom, least, greatest}
 use Rattle.lists.specs.Answer.{refusal}
 use Rattle.hierarchy.specs.Hierarchy.{someEdge, spread, spreads, reach}
-use Rattle.intervals.specs.Cover.{closest}
+use Rattle.covers.specs.Cover.{closest}
 use Rattle.naming.specs.Names.{insert, insertAll, risesFrom}
 use Rattle.parties.specs.Sound.{soundParties}
 use Rattle.sweeps.specs.Sweeps.{offer, sweep}

@@ -6,7 +6,7 @@ use lib.ListN.{length, replicate}
 use Rattle.lists.specs.Answer.{numberOf}
 use Rattle.intervals.specs.Build.{BuildResult, buildRefusal, buildStep}
 use Rattle.intervals.specs.Intervals.{intervalTable}
-use Rattle.intervals.specs.Cover.{callInterval, coverOf}
+use Rattle.covers.specs.Cover.{callInterval, coverOf}
 use Rattle.examples.specs.Cases.{Case, intervals, cover}
 use Rattle.examples.specs.Table.{T, shared}
 use Rattle.examples.specs.Rows.{Row, is, are}

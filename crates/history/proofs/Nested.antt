@@ -16,7 +16,7 @@ use Rattle.lists.proofs.Members.{In}
 use Rattle.lists.proofs.Distinct.{any-found, every-in}
 use Rattle.hierarchy.specs.Hierarchy.{edgesOf, flagged, reach, inReach}
 use Rattle.intervals.specs.Intervals.{lowOf, highOf}
-use Rattle.intervals.specs.Cover.{lowAt, highAt}
+use Rattle.covers.specs.Cover.{lowAt, highAt}
 use Rattle.interval_laws.proofs.Laws.{Inside, built-length, built-low, built-high, reach-agrees, reached-inside, taken}
 use Rattle.naming.specs.Names.{namesOf, rises}
 use Rattle.locks.specs.declared.Lock.{Lock}

@@ -8,13 +8,13 @@ use lib.Dec.{leb}
 use borrow.Author.Tests.{leb-true, le-leb}
 use Rattle.hierarchy.specs.Hierarchy.{edgesOf, Legal}
 use Rattle.intervals.specs.Intervals.{intervalTable}
-use Rattle.intervals.specs.Cover.{lowAt, highAt, intervalAt, callInterval, contains, width, closest, coverOf, IsCover}
-use Rattle.intervals.specs.declared.Interval.{Interval}
+use Rattle.covers.specs.Cover.{lowAt, highAt, intervalAt, callInterval, contains, width, closest, coverOf, IsCover}
+use Rattle.covers.specs.declared.Interval.{Interval}
 use Rattle.lists.proofs.Bools.{and-left, and-right, and-both}
 use Rattle.lists.proofs.Members.{In, in-nil, in-cons, head}
 use Rattle.hierarchy.proofs.Legals.{promised}
-use Rattle.intervals.proofs.Bounds.{first-name}
-use Rattle.intervals.proofs.Covers.{closest-cover}
+use Rattle.covers.proofs.Bounds.{first-name}
+use Rattle.covers.proofs.Covers.{closest-cover}
 use Rattle.interval_laws.specs.Covers.{Rooted}
 use Rattle.interval_laws.proofs.Laws.{call-bounds, same-members, built-low, built-high, interval-real, interval-inside-root}
 
@@ -28,7 +28,7 @@ contains-ends a b e = (
 pub contains-by : (a b : Interval) → a .low ≤ b .low → b .high ≤ a .high → contains a b ≡ true
 contains-by a b p q = and-both (leb (a .low) (b .low)) (leb (b .high) (a .high)) (le-leb (a .low) (b .low) p) (le-leb (b .high) (a .high) q)
 
--- OVER ANY TABLE: where the interval of some node contains the call's, the definition gives the cover (`closest-cover`, intervals/proofs/Covers),
+-- OVER ANY TABLE: where the interval of some node contains the call's, the definition gives the cover (`closest-cover`, covers/proofs/Covers),
 -- and no other node is the cover
 pub closest-only : (n : ℕ) (table : List ℕ) (call : Interval) (c : ℕ) → IsCover n table call c → c ≡ closest n table call
 closest-only n table call c k =

@@ -16,9 +16,9 @@ use Rattle.hierarchy.specs.Hierarchy.{edgesOf, Edge, Reach, reach, hierarchyChe
 use Rattle.hierarchy.specs.Hierarchy.Reach.{self, step}
 use Rattle.intervals.specs.Numbering.{numbering}
 use Rattle.intervals.specs.Intervals.{lowOf, highOf, intervalsFrom, intervalTable}
-use Rattle.intervals.specs.Cover.{lowAt, highAt, intervalAt, callInterval}
+use Rattle.covers.specs.Cover.{lowAt, highAt, intervalAt, callInterval}
 use Rattle.intervals.specs.Build.{buildShort, buildRefusal, buildStep}
-use Rattle.intervals.specs.declared.Interval.{Interval}
+use Rattle.covers.specs.declared.Interval.{Interval}
 use Rattle.lists.proofs.Bools.{or-left, or-right, not-both}
 use Rattle.lists.proofs.Refusals.{refused-later, refusal-none}
 use Rattle.lists.proofs.Members.{In, head, tail, in-nil, in-cons, least-most, least-is, greatest-least, greatest-is}
@@ -26,7 +26,7 @@ use Rattle.hierarchy.proofs.Reaches.{onto, reach-all, reach-only, reach-within}
 use Rattle.hierarchy.proofs.Legals.{Promise, promised}
 use Rattle.intervals.proofs.Extremes.{reach-numbered as numbered-in, low-most as least-low, low-is as least-is-low, high-least as greatest-high, high-is as greatest-is-high}
 use Rattle.interval_laws.specs.Covers.{running}
-use Rattle.intervals.proofs.Bounds.{first-name, one-name-more}
+use Rattle.covers.proofs.Bounds.{first-name, one-name-more}
 use Rattle.interval_laws.proofs.Numbers.{numbering-most, numbering-once}
 
 -- an interval of numbers from 1 to n

@@ -3,8 +3,8 @@ use mathlib.Core.Path.{_≡_}
 use mathlib.Core.List.{List, [], _∷_}
 use mathlib.Core.Bool.{true}
 use Prim.Native.Nat.{ℕ, _≤_, _<_}
-use Rattle.intervals.specs.Cover.{lowAt, highAt, intervalAt, oneMore, contains}
-use Rattle.intervals.specs.declared.Interval.{Interval}
+use Rattle.covers.specs.Cover.{lowAt, highAt, intervalAt, oneMore, contains}
+use Rattle.covers.specs.declared.Interval.{Interval}
 
 -- each of n nodes has low at most high, and an interval inside node 0's. It is what laws of the cover take from refusal 10, which asks more (1 to 256)
 pub record Rooted (n : ℕ) (table : List ℕ) : Type 0 where

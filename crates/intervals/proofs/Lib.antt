@@ -8,5 +8,3 @@ pub mod Tables
 pub mod Extremes
 pub mod Writes
 pub mod Builds
-pub mod Bounds
-pub mod Covers

@@ -1,5 +1,4 @@
 pub mod Numbering
 pub mod Intervals
 pub mod Build
-pub mod Cover
 pub mod Inner

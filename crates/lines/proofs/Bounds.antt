@@ -14,12 +14,12 @@ use Rattle.lists.proofs.Loops.{keep-few}
 use Rattle.lists.proofs.Marks.{set-get, zero-at}
 use Rattle.lists.specs.Lists.{allBelow, every, keptIf, keep, over, Below}
 use Rattle.lists.specs.Answer.{Answer, done, refused as denied, Check, refusal}
-use Rattle.intervals.specs.Cover.{callInterval}
+use Rattle.covers.specs.Cover.{callInterval}
 use Rattle.lists.proofs.Bools.{bool, and-left, and-right}
 use Rattle.lists.proofs.Bounded.{all-at}
 use Rattle.lists.proofs.Refusals.{refused-here, refused-later}
 use Rattle.hierarchy.proofs.Legals.{right-size}
-use Rattle.intervals.proofs.Covers.{closest-below}
+use Rattle.covers.proofs.Covers.{closest-below}
 use Rattle.blocks.specs.Record.{kindOf, partyIn, modeIn, nameCountIn, namesIn, nodeIn, valueIn}
 use Rattle.locks.specs.declared.Mode.{Mode}
 use Rattle.locks.specs.declared.Lock.{Lock}

@@ -9,8 +9,8 @@ use lib.ListN.{length, take, List·getD-eq-default}
 use lib.Seq.{take-all}
 use borrow.Author.Tests.{eqb-true, lt-ltb, le-ltb, lt-leb, leb-true, ltb-true, ltb-false, not-false}
 use Rattle.lists.specs.Lists.{anyBelow}
-use Rattle.intervals.specs.Cover.{intervalAt}
-use Rattle.intervals.specs.declared.Interval.{Interval}
+use Rattle.covers.specs.Cover.{intervalAt}
+use Rattle.covers.specs.declared.Interval.{Interval}
 use Rattle.lists.proofs.Bools.{bool, and-left, and-right, or-left, or-right, over-not, three-not}
 use Rattle.lists.proofs.Bounded.{any-none, any-stop}
 use Rattle.locks.specs.declared.Mode.{Mode}

@@ -6,7 +6,7 @@ use lib.Dec.{eqb, leb, ltb}
 use lib.ListN.{length, take}
 use Rattle.lists.specs.Lists.{any, every}
 use Rattle.hierarchy.specs.Hierarchy.{edgesOf, inReach}
-use Rattle.intervals.specs.Cover.{lowAt, highAt, coverOf}
+use Rattle.covers.specs.Cover.{lowAt, highAt, coverOf}
 use Rattle.naming.specs.declared.Names.{Names}
 use Rattle.naming.specs.Names.{namesOf, namesRight, ascending, named}
 use Rattle.locks.specs.declared.Mode.{Mode}

@@ -164,7 +164,7 @@ fn lock_right(n: usize, intervals: &[u16], l: Lock) -> bool
     if n <= c {
         return false;
     }
-    let i = intervals::interval_at(intervals, c);
+    let i = covers::interval_at(intervals, c);
     if i.low != l.low {
         return false;
     }
@@ -175,7 +175,7 @@ fn lock_right(n: usize, intervals: &[u16], l: Lock) -> bool
 fn inside_lock(intervals: &[u16], node: usize, l: Lock) -> bool
     ensures { λ r. ⌜ r ≡ insideLock (spanned 0 (now (intervals .entry))) node l ⌝ }
 {
-    let i = intervals::interval_at(intervals, node);
+    let i = covers::interval_at(intervals, node);
     if i.low < l.low {
         return false;
     }
@@ -253,7 +253,7 @@ fn some_interval_wrong(n: usize, intervals: &[u16]) -> bool
     requires { ⌜ 2 * n ≤ length (now intervals) ⌝ }
     ensures { λ r. ⌜ r ≡ anyBelow n (intervalWrong (spanned n (now (intervals .entry)))) ⌝ }
 {
-    let root = intervals::interval_at(intervals, 0);
+    let root = covers::interval_at(intervals, 0);
     let mut wrong = false;
     let mut i = 0;
     while i < n {
@@ -310,9 +310,9 @@ pub fn names_wrong(n: usize, names: &[u16], name_count: usize) -> bool
 pub fn lock_called(n: u16, intervals: &[u16], mode: Mode, names: &[u16]) -> Lock
     ensures { λ r. ⌜ r ≡ lockOn (spanned n (now (intervals .entry))) mode (coverIn (spanned n (now (intervals .entry))) (now (names .entry))) (keptNames (now (names .entry))) ⌝ }
 {
-    let call = intervals::call_interval(intervals, names);
-    let cover = intervals::closest(n as usize, intervals, call);
-    let i = intervals::interval_at(intervals, cover);
+    let call = covers::call_interval(intervals, names);
+    let cover = covers::closest(n as usize, intervals, call);
+    let i = covers::interval_at(intervals, cover);
     let kept = naming::kept(names);
     Lock {
         mode,

@@ -13,7 +13,7 @@ use Rattle.hierarchy.specs.Hierarchy.{edgesOf, reach, flagged}
 use Rattle.hierarchy.proofs.Legals.{promised}
 use Rattle.hierarchy.proofs.Reaches.{reach-within}
 use Rattle.intervals.specs.Intervals.{lowOf, highOf, intervalTable}
-use Rattle.intervals.specs.Cover.{lowAt, highAt}
+use Rattle.covers.specs.Cover.{lowAt, highAt}
 use Rattle.interval_laws.proofs.Laws.{Shared, built-low, built-high, interval-real}
 use Rattle.locks.specs.declared.Lock.{Lock}
 use Rattle.locks.specs.declared.Stage.{Stage}

@@ -12,7 +12,7 @@ use Rattle.lists.proofs.Bools.{bool}
 use Rattle.lists.proofs.Loops.{drop-step}
 use Rattle.hierarchy.specs.Hierarchy.{flagged, reach}
 use Rattle.hierarchy.proofs.Reaches.{reach-long}
-use Rattle.intervals.specs.declared.Interval.{Interval}
+use Rattle.covers.specs.declared.Interval.{Interval}
 use Rattle.intervals.specs.Intervals.{numbersAmong, lowOf, highOf, intervalsFrom, intervalTable}
 use Rattle.intervals.proofs.Doubles.{two-set}
 use Rattle.reach_sets.specs.declared.NodeSet.{NodeSet}

@@ -15,8 +15,8 @@ ghost use Rattle.intervals.specs.Build.{buildMeaning};
 ghost use Rattle.reach_sets.specs.Sets.{noNodes, has as having, joined as union, meets as meeting, setAt, setTo, callSet, setTable};
 ghost use Rattle.reach_sets.specs.Plain.{setsStep, plainShort, plainStep};
 ghost use Rattle.reach_sets.specs.Inner.{singleOf, sameWords, room, Joins, Kept, Settled, Fillable, countedIf, lessOf, Spannable, Writable};
+use covers::Interval;
 use intervals::BuildAnswer;
-use intervals::Interval;
 
 // Building is lent 1,024 words, four for each of 256 nodes.
 pub const WORDS: usize = 1024;
@@ -271,7 +271,7 @@ fn span(set: NodeSet, numbers: &[u16]) -> Interval
     while y < numbers.len() {
         let number = counted_if(has(set, y), numbers[y]);
         low = less_of(low, number);
-        high = intervals::greater(high, number);
+        high = covers::greater(high, number);
         y += 1;
     }
     Interval { low, high }

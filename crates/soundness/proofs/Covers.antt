@@ -12,8 +12,8 @@ use lib.Seq.{length-take-le}
 use borrow.Author.Tests.{ltb-false, not-false}
 use Rattle.lists.specs.Lists.{anyBelow}
 use Rattle.lists.specs.Answer.{Answer, done, refused, Check}
-use Rattle.intervals.specs.Cover.{intervalAt, callInterval, IsCover}
-use Rattle.intervals.specs.declared.Interval.{Interval}
+use Rattle.covers.specs.Cover.{intervalAt, callInterval, IsCover}
+use Rattle.covers.specs.declared.Interval.{Interval}
 use Rattle.lists.proofs.Bools.{not-both}
 use Rattle.lists.proofs.Refusals.{refusal-none}
 use Rattle.lists.proofs.Members.{In, head}

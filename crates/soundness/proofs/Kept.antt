@@ -13,13 +13,13 @@ use borrow.Author.Tests.{eq-eqb, lt-ltb, le-leb, not-true, not-false}
 use Rattle.lists.specs.Lists.{keep}
 use Rattle.lists.specs.Answer.{Check}
 use Rattle.hierarchy.specs.Hierarchy.{sizeWrong}
-use Rattle.intervals.specs.Cover.{callInterval}
+use Rattle.covers.specs.Cover.{callInterval}
 use Rattle.lists.proofs.Bools.{bool, not-both, or-left}
 use Rattle.lists.proofs.Bounded.{any-stop, any-none, none-of}
 use Rattle.lists.proofs.Members.{In}
 use Rattle.lists.proofs.Distinct.{any-some, any-in, every-of, in-front, in-between, distinct-between}
 use Rattle.hierarchy.proofs.Legals.{right-size}
-use Rattle.intervals.proofs.Covers.{closest-below}
+use Rattle.covers.proofs.Covers.{closest-below}
 use Rattle.locks.specs.declared.Mode.{Mode}
 use Rattle.locks.specs.declared.Lock.{Lock}
 use Rattle.locks.specs.declared.Stage.{Stage}

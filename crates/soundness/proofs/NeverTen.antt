@@ -12,7 +12,7 @@ use Rattle.lists.specs.Lists.{anyBelow, any}
 use Rattle.lists.specs.Answer.{Check, _when_, refusal}
 use Rattle.hierarchy.specs.Hierarchy.{edgesOf}
 use Rattle.intervals.specs.Intervals.{lowOf, highOf}
-use Rattle.intervals.specs.Cover.{lowAt, highAt}
+use Rattle.covers.specs.Cover.{lowAt, highAt}
 use Rattle.lists.proofs.Bools.{bool, not-both, both-ways, or-left, or-neither}
 use Rattle.lists.proofs.Refusals.{refused-here}
 use Rattle.lists.proofs.Bounded.{all-at, all-of, none-of}

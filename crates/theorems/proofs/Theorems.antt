@@ -18,8 +18,8 @@ use Rattle.hierarchy.specs.Hierarchy.{edgesOf, Edge, Reach, reach, hierarchyChe
 use Rattle.intervals.specs.Numbering.{numbering}
 use Rattle.intervals.specs.Intervals.{lowOf, highOf, intervalTable}
 use Rattle.intervals.specs.Build.{buildStep}
-use Rattle.intervals.specs.declared.Interval.{Interval}
-use Rattle.intervals.specs.Cover.{lowAt, highAt, intervalAt, callInterval, contains, width, closest, coverOf}
+use Rattle.covers.specs.declared.Interval.{Interval}
+use Rattle.covers.specs.Cover.{lowAt, highAt, intervalAt, callInterval, contains, width, closest, coverOf}
 use Rattle.blocks.specs.declared.ReadStage.{ReadStage}
 use Rattle.blocks.specs.Record.{kindOf, faulty}
 use Rattle.blocks.specs.Block.{afterRecord}
@@ -73,8 +73,8 @@ use Rattle.lists.proofs.Bools.{bool, not-both}
 use Rattle.lists.proofs.Distinct.{every-in, every-of, in-keep, keep-in, Distinct}
 use Rattle.interval_laws.proofs.Laws as laws
 use Rattle.interval_laws.proofs.Scratch as building
-use Rattle.intervals.proofs.Bounds as bounds-laws
-use Rattle.intervals.proofs.Covers as closest-laws
+use Rattle.covers.proofs.Bounds as bounds-laws
+use Rattle.covers.proofs.Covers as closest-laws
 use Rattle.interval_laws.proofs.Covers as cover-laws
 use Rattle.block_laws.proofs.Laws as file-forms
 use Rattle.runs.proofs.Runs as ran-laws

@@ -6,8 +6,8 @@ use Prim.Native.Nat.{ℕ}
 use lib.Dec.{leb}
 use borrow.Author.Needs.{needs}
 use borrow.Author.Tests.{lt-leb, le-leb}
-use Rattle.intervals.specs.Cover.{intervalAt}
-use Rattle.intervals.specs.declared.Interval.{Interval}
+use Rattle.covers.specs.Cover.{intervalAt}
+use Rattle.covers.specs.declared.Interval.{Interval}
 use Rattle.locks.specs.declared.Lock.{Lock}
 use Rattle.locks.specs.Lent.{spanned, insideLock}
 use Rattle.locks.proofs.inside_lock.Statement.{statement}

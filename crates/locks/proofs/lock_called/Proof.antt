@@ -2,9 +2,9 @@
 use mathlib.Core.Path.{_≡_, ap, ap₂, _∙_}
 use native.Mathlib.Omega.{arith}
 use borrow.Author.Needs.{needs}
-use Rattle.intervals.specs.declared.Interval.{Interval}
-use Rattle.intervals.specs.Cover.{closest}
-use Rattle.intervals.proofs.Covers.{closest-least}
+use Rattle.covers.specs.declared.Interval.{Interval}
+use Rattle.covers.specs.Cover.{closest}
+use Rattle.covers.proofs.Covers.{closest-least}
 use Rattle.locks.specs.Lent.{spanned, coverIn, lockOn}
 use Rattle.locks.proofs.Tables.{lock-by}
 use Rattle.locks.proofs.lock_called.Statement.{statement}

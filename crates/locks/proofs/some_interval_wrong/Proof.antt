@@ -7,7 +7,7 @@ use native.Mathlib.Omega.{arith}
 use lib.ListN.{getD}
 use borrow.Author.Needs.{needs}
 use Rattle.lists.specs.Lists.{anyBelow}
-use Rattle.intervals.specs.declared.Interval.{Interval}
+use Rattle.covers.specs.declared.Interval.{Interval}
 use Rattle.lists.proofs.Bounded.{any-one-more}
 use Rattle.locks.specs.Lent.{spanned, intervalWrong}
 use Rattle.locks.specs.Inner.{outside}

@@ -8,8 +8,8 @@ use native.Mathlib.Omega.{arith}
 use lib.Dec.{ltb}
 use lib.ListN.{length, getD, List·getD-eq-default}
 use borrow.Author.Tests.{ltb-true, ltb-false, not-true}
-use Rattle.intervals.specs.Cover.{intervalAt, contains, width, closer, closerOf, closest, IsCover}
-use Rattle.intervals.specs.declared.Interval.{Interval}
+use Rattle.covers.specs.Cover.{intervalAt, contains, width, closer, closerOf, closest, IsCover}
+use Rattle.covers.specs.declared.Interval.{Interval}
 use Rattle.lists.proofs.Bools.{bool, not-both, and-left, and-right, or-either}
 use Rattle.lists.proofs.Bounded.{below-more}
 

@@ -6,7 +6,7 @@ use Prim.Native.Nat.{ℕ, zero, suc, _+_, _-_, _*_, _≤_, _<_, min, max}
 use lib.Dec.{leb, ltb}
 use lib.ListN.{getD}
 use Rattle.lists.specs.Lists.{least, greatest}
-use Rattle.intervals.specs.declared.Interval.{Interval}
+use Rattle.covers.specs.declared.Interval.{Interval}
 
 -- low of a node, in a table that has low and high in turn for each node. Past the table, of which document 01 says nothing, stands 0
 abbrev pub lowAt : List ℕ → ℕ → ℕ

@@ -7,10 +7,10 @@ use lib.ListN.{length, getD, take}
 use lib.Seq.{length-take-le}
 use borrow.Author.Needs.{needs}
 use Rattle.lists.proofs.Loops.{take-step}
-use Rattle.intervals.specs.Cover.{callInterval}
-use Rattle.intervals.proofs.Bounds.{no-name, pass-start, pass-end}
-use Rattle.intervals.proofs.call_interval.Statement.{statement}
-use Rattle.intervals.proofs.call_interval.Tie as tie
+use Rattle.covers.specs.Cover.{callInterval}
+use Rattle.covers.proofs.Bounds.{no-name, pass-start, pass-end}
+use Rattle.covers.proofs.call_interval.Statement.{statement}
+use Rattle.covers.proofs.call_interval.Tie as tie
 
 -- after name i: the least low and the greatest high of the names up to it
 abbrev Inv-loop : tie.InvT-loop

@@ -5,10 +5,10 @@ use Prim.Native.Nat.{ℕ, _+_, _-_, _/_, _≤_, min}
 use native.Mathlib.Omega.{arith}
 use lib.ListN.{length}
 use borrow.Author.Needs.{needs}
-use Rattle.intervals.specs.Cover.{closest as closestOf}
-use Rattle.intervals.proofs.Covers.{Looking, looking-start, looking-closer, looking-past, looked}
-use Rattle.intervals.proofs.closest.Statement.{statement}
-use Rattle.intervals.proofs.closest.Tie as tie
+use Rattle.covers.specs.Cover.{closest as closestOf}
+use Rattle.covers.proofs.Covers.{Looking, looking-start, looking-closer, looking-past, looked}
+use Rattle.covers.proofs.closest.Statement.{statement}
+use Rattle.covers.proofs.closest.Tie as tie
 
 abbrev Inv-loop : tie.InvT-loop
 Inv-loop n intervals call end best₀ around₀ node₀ best around node = Looking intervals call node best around × (node ≤ end)

@@ -1,7 +1,7 @@
 -- `contains` meets its contract: both ends are compared. Assumes nothing.
 use borrow.Author.Tests.{le-leb, lt-leb}
-use Rattle.intervals.proofs.contains.Statement.{statement}
-use Rattle.intervals.proofs.contains.Tie as tie
+use Rattle.covers.proofs.contains.Statement.{statement}
+use Rattle.covers.proofs.contains.Tie as tie
 
 returns : tie.Need-returns
 returns c = simp (le-leb _ _ (c .before .before .if1 .taken))

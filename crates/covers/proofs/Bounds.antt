@@ -7,7 +7,7 @@ use lib.ListN.{length, getD, take, length-map}
 use lib.Seq.{take-all}
 use Rattle.lists.specs.Lists.{foldFrom, least, greatest}
 use Rattle.lists.proofs.Members.{least-snoc, greatest-snoc}
-use Rattle.intervals.specs.Cover.{lowAt, highAt, intervalAt, callInterval, oneMore}
+use Rattle.covers.specs.Cover.{lowAt, highAt, intervalAt, callInterval, oneMore}
 
 module _ (table : List ℕ) where
   -- without a name

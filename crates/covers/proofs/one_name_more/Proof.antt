@@ -1,9 +1,9 @@
 -- `one_name_more` meets its contract: the less of the lows and the greater of the highs are the bounds of a list and one name more. Assumes nothing.
 use mathlib.Core.Path.{refl, sym}
 use borrow.Author.Needs.{needs}
-use Rattle.intervals.proofs.Bounds.{one-name-more}
-use Rattle.intervals.proofs.one_name_more.Statement.{statement}
-use Rattle.intervals.proofs.one_name_more.Tie as tie
+use Rattle.covers.proofs.Bounds.{one-name-more}
+use Rattle.covers.proofs.one_name_more.Statement.{statement}
+use Rattle.covers.proofs.one_name_more.Tie as tie
 
 returns : tie.Need-returns
 returns c =

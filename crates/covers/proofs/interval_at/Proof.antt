@@ -3,8 +3,8 @@ use lib.ListN.{List·getD-eq-default}
 use Prim.Native.Nat.{_+_, _*_}
 use native.Mathlib.Omega.{arith}
 use borrow.Author.Needs.{needs}
-use Rattle.intervals.proofs.interval_at.Statement.{statement}
-use Rattle.intervals.proofs.interval_at.Tie as tie
+use Rattle.covers.proofs.interval_at.Statement.{statement}
+use Rattle.covers.proofs.interval_at.Tie as tie
 
 returns : tie.Need-returns
 returns c = let a = c .before .before .args in

@@ -1,7 +1,7 @@
 -- `lesser` meets its contract: it answers the second where that is less, else the first. Assumes nothing.
 use native.Mathlib.Omega.{arith}
-use Rattle.intervals.proofs.lesser.Statement.{statement}
-use Rattle.intervals.proofs.lesser.Tie as tie
+use Rattle.covers.proofs.lesser.Statement.{statement}
+use Rattle.covers.proofs.lesser.Tie as tie
 
 returns : tie.Need-returns
 returns c = omega (arith, c .if1 .taken)

@@ -1,7 +1,7 @@
 -- `closer` meets its contract: both intervals are tested, and their widths compared. Assumes nothing.
 use borrow.Author.Needs.{needs}
-use Rattle.intervals.proofs.closer.Statement.{statement}
-use Rattle.intervals.proofs.closer.Tie as tie
+use Rattle.covers.proofs.closer.Statement.{statement}
+use Rattle.covers.proofs.closer.Tie as tie
 
 returns : tie.Need-returns
 returns c = rw (c .width2 .ensures, c .before .width .ensures, c .before .before .contains2 .ensures, c .before .before .before .contains .ensures)

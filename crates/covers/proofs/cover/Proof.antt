@@ -1,7 +1,7 @@
 -- `cover` meets its contract: it looks for the closest node with the call's interval. Assumes nothing.
 use borrow.Author.Needs.{needs}
-use Rattle.intervals.proofs.cover.Statement.{statement}
-use Rattle.intervals.proofs.cover.Tie as tie
+use Rattle.covers.proofs.cover.Statement.{statement}
+use Rattle.covers.proofs.cover.Tie as tie
 
 returns : tie.Need-returns
 returns c = rw (c .closest .ensures, c .before .call-interval .ensures)

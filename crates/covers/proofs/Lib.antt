@@ -1,0 +1,3 @@
+-- What the proofs of several functions, and of the layers above, use.
+pub mod Bounds
+pub mod Covers
