@@ -5,7 +5,7 @@ use Prim.Native.Nat.{ℕ, zero, suc, _*_, _/_}
 use lib.Dec.{eqb}
 use lib.ListN.{length, replicate}
 use Rattle.lists.specs.Lists.{sum}
-use Rattle.lists.specs.Answer.{Answer, done, refused as denied}
+use Rattle.lists.specs.Answer.{Answer, done, refused as denied, isDone}
 use Rattle.hierarchy.specs.Hierarchy.{reach}
 use Rattle.intervals.specs.Build.{BuildResult, buildStep}
 use Rattle.covers.specs.Cover.{lowAt, highAt, coverOf}
@@ -54,10 +54,6 @@ built n edges = buildStep n edges (length edges / 2) (replicate (2 * n) 0) (repl
 -- it is not refused
 unfoldable pub unrefused : BuildResult → Bool
 unrefused result = isDone (result .answer)
-  where
-    isDone : Answer (Unit {0}) → Bool
-    isDone (done _) = true
-    isDone (denied k) = false
 
 -- it is not refused, and writes the expected numbers
 unfoldable pub wrote : BuildResult → List ℕ → Bool

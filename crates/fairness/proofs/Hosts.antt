@@ -18,8 +18,8 @@ use Rattle.desk.specs.Desks.{stageAt}
 use Rattle.desk.specs.Steps.{waits, enterStep, getStep, putStep, addStep}
 use Rattle.desk.specs.Answers.{Enters, enterMeaning}
 use Rattle.runs.specs.Run.{restored, Step, lentTo, entered, got, stored, added, State, afterEnter, afterGet, afterPut, afterAdd, afterLeave, moveCall, move, Ran, alsoRan, run}
-use Rattle.history.specs.Results.{Result, enter as entering, get as getting, put as putting, add as adding, leave as leaving, Meets, deskFrom, toldBy}
-use Rattle.history.proofs.Results.{lend-all, callFor, between, moved-alike, left-alike}
+use Rattle.history.specs.Results.{Result, enter as entering, get as getting, put as putting, add as adding, leave as leaving, Meets, deskFrom, toldBy, callFor}
+use Rattle.history.proofs.Results.{lend-all, between, moved-alike, left-alike}
 use Rattle.soundness.proofs.Orderly.{Shaped}
 use Rattle.fairness.specs.AnySteps.{AnyStep, runAny, HostCall, CallsMeet, toldBack, deskAfter}
 use Rattle.fairness.specs.Ahead.{ahead, visitLeft}

@@ -24,11 +24,12 @@ use Rattle.desk.specs.declared.Desk.{Desk}
 use Rattle.desk.specs.Desks.{stageAt}
 use Rattle.desk.specs.Steps.{granted, waits, EnterResult, enterRefusal, enterUnless, enterStep, leaveRefusal, leaveUnless, leaveStep}
 use Rattle.runs.specs.Run.{Call, enter, get, put, add, leave, entered, left, State, afterEnter, listed, afterLeave, moveCall, Ran, alsoRan}
+use Rattle.runs.proofs.Written.{lock, desk, one, whole}
 use Rattle.fairness.specs.AnySteps.{AnyStep, runAny}
 use Rattle.fairness.specs.Ahead.{numbersBelow, ahead, hasLeft, allLeft}
 use Rattle.fairness.specs.Rules.{Rules, paperRules, newcomersPass, fromTheBack, onlyHolders, enterBy, leaveBy, moveBy, runBy, NobodyPassedOver}
 use Rattle.fairness.proofs.Fairness.{nobody-passed-over}
-use Rattle.fairness.proofs.Written.{lock, desk, one, whole, at, comes, goes}
+use Rattle.fairness.proofs.Written.{at, comes, goes}
 
 -- BY THE PAPER'S RULES a step is the desk's: enter,
 enter-same : (o : Option ℕ) (d : Desk) (party : ℕ) (l : Lock) → enterBy paperRules o d party l ≡ enterUnless o d party l

@@ -22,20 +22,12 @@ use Rattle.desk.specs.declared.Desk.{Desk}
 use Rattle.desk.specs.Desks.{freshDesk, stageAt}
 use Rattle.desk.specs.Steps.{granted, waits, enterStep, leaveStep}
 use Rattle.runs.specs.Run.{entered, left, afterEnter, listed, afterLeave, moveCall, alsoRan}
+use Rattle.runs.proofs.Written.{lock, desk, one, whole, T}
 use Rattle.soundness.proofs.Orderly.{Shaped}
 use Rattle.fairness.specs.AnySteps.{AnyStep, moveAny, runAny}
 use Rattle.fairness.specs.Ahead.{numbersBelow, ahead, frontOf, inFront, others, hasLeft, visitLeft}
 use Rattle.fairness.proofs.Fairness.{nobody-passed-over, as-soon-as, waiter-not-passed-over}
-use Rattle.fairness.proofs.Written.{lock, desk, one, whole, at, comes, goes}
-
--- TABLE T of document 01
-abbrev T : Hierarchy
-T = record {
-  n = 10;
-  intervals = 1 ∷ 4 ∷ 1 ∷ 2 ∷ 3 ∷ 4 ∷ 1 ∷ 1 ∷ 2 ∷ 2 ∷ 3 ∷ 3 ∷ 3 ∷ 4 ∷ 3 ∷ 3 ∷ 4 ∷ 4 ∷ 3 ∷ 3 ∷ [];
-  edges = 0 ∷ 1 ∷ 0 ∷ 2 ∷ 1 ∷ 3 ∷ 1 ∷ 4 ∷ 2 ∷ 5 ∷ 2 ∷ 6 ∷ 5 ∷ 7 ∷ 6 ∷ 7 ∷ 6 ∷ 8 ∷ 7 ∷ 9 ∷ 9 ∷ 7 ∷ [];
-  edgeCount = 11;
-}
+use Rattle.fairness.proofs.Written.{at, comes, goes}
 
 -- the small calls: 1 writes 7 and 2 reads 8, both are in; 3 would write 8, and waits for 2
 abbrev small : Desk

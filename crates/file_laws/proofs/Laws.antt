@@ -1,7 +1,7 @@
 -- The values after running an accepted file equal serial execution of its book: demand 3 for the run of its steps' calls. Assumes nothing.
 use mathlib.Core.Path.{_≡_, refl, sym, ap, subst, _∙_}
 use mathlib.Core.List.{List, [], _∷_, map}
-use mathlib.Core.Bool.{Bool, true, false, false≢true}
+use mathlib.Core.Bool.{false, false≢true}
 use mathlib.Core.Option.{Option, none, some}
 use Prim.Native.Nat.{ℕ, _*_}
 use native.Mathlib.Omega.{arith}
@@ -10,7 +10,7 @@ use lib.ListN.{length, take, drop, replicate, length-replicate}
 use lib.Seq.{take-all, take-at}
 use borrow.Author.Tests.{le-ltb}
 use Rattle.lists.specs.Lists.{over}
-use Rattle.lists.specs.Answer.{Answer, done, refused as denied, refusal, answerOf, roomAfter}
+use Rattle.lists.specs.Answer.{Answer, done, refused as denied, refusal, answerOf, roomAfter, isDone}
 use Rattle.hierarchy.specs.Hierarchy.{edgesOf, hierarchyChecks}
 use Rattle.intervals.specs.Intervals.{intervalTable}
 use Rattle.intervals.specs.Build.{buildShort, buildRefusal, buildStep}
@@ -84,10 +84,6 @@ events-are (r ∷ rs) s =
 
 -- an answer is done with one thing only, and not refused
 module _ {A : Type 0} where
-  abbrev isDone : Answer A → Bool
-  isDone (done x) = true
-  isDone (denied k) = false
-
   not-done : (k : ℕ) (x : A) → denied k ≡ done x → ⊥
   not-done k x e = false≢true (ap isDone e)
 

@@ -37,15 +37,11 @@ use Rattle.runs.specs.Run.{Moved, afterEnter, afterGet, afterPut, afterAdd, lis
 use Rattle.runs.proofs.Lends.{restored-lend, put-length, add-length}
 use Rattle.history.specs.Serial.{Built, Serial, SerialSteps}
 use Rattle.history.specs.Results.{LentOf, leftIn, Result, enter as entering, get as getting, put as putting, add as adding, leave as leaving, Made, Meets}
-use Rattle.history.specs.Results.{deskFrom, valuesFrom, toldBy, AllMeet, toldByAll, lastDesk, lastValues}
+use Rattle.history.specs.Results.{deskFrom, valuesFrom, toldBy, AllMeet, toldByAll, lastDesk, lastValues, lending, callFor, stepFor, stepsFor}
 use Rattle.history.proofs.Nested.{built-nested}
 use Rattle.history.proofs.Serializable.{serializable}
 
--- BUFFERS. How one was lent of a table
-abbrev pub lending : List ℕ → List ℕ → Lending
-lending table buffer = part (length buffer) (drop (length table) buffer)
-
--- the table itself, and anything behind it
+-- BUFFERS. The table itself, and anything behind it
 pub lend-all : (t b : List ℕ) → take (length t) b ≡ t → lend t (lending t b) ≡ b
 unfolding lend
 lend-all t b e =
@@ -213,26 +209,6 @@ module _ (K K′ : Hierarchy) (alike : Alike K K′) (d : Desk) (party : ℕ) wh
       changes-alike = changes-by (either-by alike lent-of)
 
 -- A CALL as a step of a list
-unfoldable pub callFor : List ℕ → Result → Call
-callFor values (entering party mode names nameCount r) = enter party mode names nameCount
-callFor values (getting party node buffer scratch r used) = get party node (lending values buffer) scratch
-callFor values (putting party node value buffer scratch r after used) = put party node value (lending values buffer) scratch
-callFor values (adding party node number buffer scratch r after used) = add party node number (lending values buffer) scratch
-callFor values (leaving party list r after) = leave party list
-
-stepFor : Hierarchy → List ℕ → Made → Step
-stepFor H values m =
-    record {
-      intervals = lending (H .intervals) (m .intervals);
-      edges = lending (edgesOf (H .edges) (H .edgeCount)) (m .edges);
-      call = callFor values (m .result);
-    }
-
--- the calls of a list as its steps
-pub stepsFor : Hierarchy → List ℕ → List Made → List Step
-stepsFor H values [] = []
-stepsFor H values (m ∷ ms) = stepFor H values m ∷ stepsFor H (valuesFrom values (m .result)) ms
-
 abbrev pub between : Hierarchy → Desk → List ℕ → State
 between H d values = record { hierarchy = H; desk = d; values = values }
 
@@ -292,15 +268,15 @@ module _ (H : Hierarchy) (two-each : length (H .intervals) ≡ 2 * H .n) (all-ed
 built-edges : (H : Hierarchy) → Built H → length (edgesOf (H .edges) (H .edgeCount)) ≡ 2 * H .edgeCount
 built-edges H b = length-take-le (2 * H .edgeCount) (H .edges) (taken (H .n) (H .edges) (H .edgeCount) (b .places) (b .scratch) (b .took) .edges-long)
 
-pub results-run : (H : Hierarchy) → Built H → (values : List ℕ) → length values ≡ H .n → (made : List Made) → AllMeet H freshDesk values made
-    → run (stepsFor H values made) (start H values) ≡ record { state = between H (lastDesk freshDesk made) (lastValues values made); events = toldByAll made }
-results-run H b values sized made met = calls-run H (built-nested H b .two-each) (built-edges H b) made freshDesk values sized met
+pub results-run : (H : Hierarchy) → Built H → (d : Desk) (values : List ℕ) → length values ≡ H .n → (made : List Made) → AllMeet H d values made
+    → run (stepsFor H values made) (between H d values) ≡ record { state = between H (lastDesk d made) (lastValues values made); events = toldByAll made }
+results-run H b d values sized made met = calls-run H (built-nested H b .two-each) (built-edges H b) made d values sized met
 
 -- THE THEOREM: over one built hierarchy, from a fresh desk and any n values, whatever calls were made, where each result meets the contract of its
 -- method: these very results are what whole visits, performed in order of granting, leave and find
 pub results-serial : (H : Hierarchy) → Built H → (values : List ℕ) → length values ≡ H .n → (made : List Made) → AllMeet H freshDesk values made
     → SerialSteps values (toldByAll made) (lastValues values made)
-results-serial H b values sized made met = subst (Serial values) (results-run H b values sized made met) (serializable H b values sized (stepsFor H values made))
+results-serial H b values sized made met = subst (Serial values) (results-run H b freshDesk values sized made met) (serializable H b values sized (stepsFor H values made))
 
 -- demand 3: from n values of zero
 pub results-demand-3 : (H : Hierarchy) → Built H → (made : List Made) → AllMeet H freshDesk (replicate (H .n) 0) made

@@ -11,6 +11,7 @@ use lib.ListN.{length, getD, set, length-append}
 use lib.Seq.{getD-set-other, set-comm}
 use borrow.Author.Tests.{eqb-true, eq-eqb}
 use Rattle.lists.specs.Answer.{done, refused}
+use Rattle.lists.proofs.Kept.{All, all-map, all-snoc}
 use Rattle.locks.specs.declared.Mode.{Mode}
 use Rattle.locks.specs.declared.Mode.the-variants.{Reading, Writing, Adding}
 use Rattle.locks.specs.Locks.{compatible}
@@ -64,26 +65,14 @@ module _ {A : Type 0} where
   modeOf (didPut r x) = Writing
   modeOf (didAdd r x) = Adding
 
-  -- P of every op
-  abbrev pub AllOps : (Op A → Type 0) → List (Op A) → Type 0
-  AllOps P [] = Unit {0}
-  AllOps P (o ∷ os) = P o × AllOps P os
-
+  -- P of every op of a row
   abbrev pub AllRow : (Op A → Type 0) → List (Transaction A) → Type 0
   AllRow P [] = Unit {0}
-  AllRow P (v ∷ vs) = AllOps P (v .ops) × AllRow P vs
-
-  pub AllOps-map : {P Q : Op A → Type 0} → ((o : Op A) → P o → Q o) → (os : List (Op A)) → AllOps P os → AllOps Q os
-  AllOps-map f [] h = tt
-  AllOps-map f (o ∷ os) h = (f o (h .0), AllOps-map f os (h .1))
+  AllRow P (v ∷ vs) = All P (v .ops) × AllRow P vs
 
   pub AllRow-map : {P Q : Op A → Type 0} → ((o : Op A) → P o → Q o) → (vs : List (Transaction A)) → AllRow P vs → AllRow Q vs
   AllRow-map f [] h = tt
-  AllRow-map f (v ∷ vs) h = (AllOps-map f (v .ops) (h .0), AllRow-map f vs (h .1))
-
-  pub AllOps-snoc : (P : Op A → Type 0) (os : List (Op A)) (o : Op A) → AllOps P os → P o → AllOps P (os ++ (o ∷ []))
-  AllOps-snoc P [] o h k = (k, tt)
-  AllOps-snoc P (x ∷ os) o h k = (h .0, AllOps-snoc P os o (h .1) k)
+  AllRow-map f (v ∷ vs) h = (all-map f (v .ops) (h .0), AllRow-map f vs (h .1))
 
   -- two ops commute: on two nodes, or both gets, or both adds
   unfoldable pub Commute : Op A → Op A → Type 0
@@ -122,17 +111,17 @@ module _ {A : Type 0} where
   commute-sym o q (inr h) = inr (compatible-sym (modeOf q) (modeOf o) ∙ h)
 
   -- past a list of ops
-  pub ops-leave-past : (u : List ℕ) (o : Op A) (os : List (Op A)) → AllOps (Commute o) os → opsLeave (leaves u o) os ≡ leaves (opsLeave u os) o
+  pub ops-leave-past : (u : List ℕ) (o : Op A) (os : List (Op A)) → All (Commute o) os → opsLeave (leaves u o) os ≡ leaves (opsLeave u os) o
   unfolding opsLeave
   ops-leave-past u o [] h = refl
   ops-leave-past u o (q ∷ os) h = rw (commute-leaves u o q (h .0)) (ops-leave-past (leaves u q) o os (h .1))
 
-  pub ops-find-past : (u : List ℕ) (o : Op A) (os : List (Op A)) → AllOps (Commute o) os → opsFind (leaves u o) os ≡ opsFind u os
+  pub ops-find-past : (u : List ℕ) (o : Op A) (os : List (Op A)) → All (Commute o) os → opsFind (leaves u o) os ≡ opsFind u os
   unfolding opsFind
   ops-find-past u o [] h = refl
   ops-find-past u o (q ∷ os) h = rw (commute-leaves u o q (h .0), commute-finds u o q (h .0), ops-find-past (leaves u q) o os (h .1))
 
-  pub finds-past-ops : (u : List ℕ) (o : Op A) (os : List (Op A)) → AllOps (Commute o) os → finds (opsLeave u os) o ≡ finds u o
+  pub finds-past-ops : (u : List ℕ) (o : Op A) (os : List (Op A)) → All (Commute o) os → finds (opsLeave u os) o ≡ finds u o
   unfolding opsLeave
   finds-past-ops u o [] h = refl
   finds-past-ops u o (q ∷ os) h = finds-past-ops (leaves u q) o os (h .1) ∙ commute-finds u q o (commute-sym o q (h .0))
@@ -281,9 +270,9 @@ module _ {A : Type 0} where
   withOp-party true o v = refl
   withOp-party false o v = refl
 
-  withOp-all : (P : Op A → Type 0) (b : Bool) (o : Op A) (v : Transaction A) → P o → AllOps P (v .ops) → AllOps P ((withOp b o v) .ops)
+  withOp-all : (P : Op A → Type 0) (b : Bool) (o : Op A) (v : Transaction A) → P o → All P (v .ops) → All P ((withOp b o v) .ops)
   unfolding withOp
-  withOp-all P true o v k h = AllOps-snoc P (v .ops) o h k
+  withOp-all P true o v k h = all-snoc P (v .ops) o h k
   withOp-all P false o v k h = h
 
   pub visited-add : (q p : ℕ) (o : Op A) (vs : List (Transaction A)) → visited q (addToLatest p o vs) ≡ visited q vs

@@ -29,21 +29,21 @@ use Rattle.desk.specs.Steps.{getUnless, getStep, putUnless, putStep, addStep, l
 use Rattle.runs.specs.Run.{Lending, lend, Call, enter, get, put, add, leave, Step, lentTo, State, start}
 use Rattle.runs.specs.Run.{Moved, afterEnter, afterGet, afterPut, afterAdd, listed, afterLeave, moveCall, move, alsoRan, run}
 use Rattle.runs.specs.Over.{startOver, runOver}
-use Rattle.runs.proofs.Lends.{lend-at, restored-lend, restored-lend-set, low-lent, high-lent}
+use Rattle.runs.proofs.Lends.{lend-at, restored-lend, restored-lend-set, restored-lend-sum, low-lent, high-lent}
 use Rattle.runs.proofs.Runs.{run-over}
 use Rattle.history.specs.History.{Op, didGet, didPut, didAdd, Transaction, begun, visited, addToLatest, noted, historyFrom, history}
 use Rattle.history.specs.History.{bare, bareEvent, opsIn, counted, countedFrom, finds, leaves, serialFinds, serialLeaves}
 use Rattle.history.specs.Serial.{Built, Serial, SerialOver}
 use Rattle.desk.specs.declared.Desk.{Desk}
 use Rattle.desk.specs.Desks.{stageAt, queueOf}
-use Rattle.history.proofs.Rows.{compatible-sym, nodeOf, modeOf, Commute, Clear, Clear-map, Clear-new, Clear-granted, Clear-add}
+use Rattle.history.proofs.Rows.{compatible-sym, nodeOf, modeOf, Commute, commute-sym, Clear, Clear-map, Clear-new, Clear-granted, Clear-add}
 use Rattle.history.proofs.Rows.{Clear-visited, insert-leaves, insert-finds, append-leaves, append-finds, opsIn-add, opsIn-new, row-order}
 use Rattle.history.proofs.Nested.{Nested, built-nested, touch-inside}
 use Rattle.history.proofs.Modes.{is-adding, is-writing}
 use Rattle.history.proofs.Facts.{set-stage, holder-below, all-out, sweep-length, sweep-holds, holders-apart, right-ordered, Touch, touch, touch-own}
 
 -- MODES AND LOCKS. What a visit may do: get in a reading one, get and put in a writing one, add in an adding one
-permits : Mode → Mode → Bool
+pub permits : Mode → Mode → Bool
 permits Reading Reading = true
 permits Reading Writing = false
 permits Reading Adding = false
@@ -68,19 +68,19 @@ permitted Adding Writing b p c = absurd (true≢false (sym p))
 permitted Adding Adding b p c = c
 
 -- from what each step looks at: get
-may-get : (m : Mode) → isAdding m ≡ false → permits m Reading ≡ true
+pub may-get : (m : Mode) → isAdding m ≡ false → permits m Reading ≡ true
 unfolding permits
 may-get Reading a = refl
 may-get Writing a = refl
 may-get Adding a = absurd (true≢false a)
 
 -- put
-may-put : (m : Mode) → isReading m ≡ false → isAdding m ≡ false → permits m Writing ≡ true
+pub may-put : (m : Mode) → isReading m ≡ false → isAdding m ≡ false → permits m Writing ≡ true
 unfolding permits
 may-put m r a = rw (is-writing m r a) refl
 
 -- add
-may-add : (m : Mode) → isAdding m ≡ true → permits m Adding ≡ true
+pub may-add : (m : Mode) → isAdding m ≡ true → permits m Adding ≡ true
 unfolding permits
 may-add m a = rw (is-adding m a) refl
 
@@ -96,7 +96,7 @@ sharing H node a b o i j =
     let bh = leb-true (highIn H node) (b .high) (and-right (leb (b .low) (lowIn H node)) _ j) in
     rw (le-leb (a .low) (b .high) (omega arith), le-leb (b .low) (a .high) (omega arith))
 
-length-leaves : {A : Type 0} (u : List ℕ) (o : Op A) → length (leaves u o) ≡ length u
+pub length-leaves : {A : Type 0} (u : List ℕ) (o : Op A) → length (leaves u o) ≡ length u
 unfolding leaves
 length-leaves u (didGet r a) = refl
 length-leaves u (didPut r x) = length-set u r x
@@ -122,6 +122,12 @@ unfolding Safe
 own-safe H l g o h i own c j =
     compatible-sym (g .mode) (modeOf o)
     ∙ permitted (l .mode) (modeOf o) (g .mode) own (compatible-sym (l .mode) (g .mode) ∙ no-conflict g l c (sharing H (nodeOf o) g l h j i))
+
+-- so an op of one holder and an op of another commute
+pub holders-commute : {A : Type 0} (H : Hierarchy) (l g : Lock) (o q : Op A) → lowIn H (nodeOf o) ≤ highIn H (nodeOf o)
+    → insideLock H (nodeOf o) l ≡ true → permits (l .mode) (modeOf o) ≡ true → insideLock H (nodeOf q) g ≡ true → permits (g .mode) (modeOf q) ≡ true
+    → conflict g l ≡ false → Commute o q
+holders-commute H l g o q h i own j other c = commute-sym q o (own-commutes H g q j other o (own-safe H l g o h i own c))
 
 -- from the values u
 module _ (u : List ℕ) where
@@ -287,10 +293,7 @@ module _ (u : List ℕ) where
     add-kept x l c left-over p node number (some n) t = rw (restored-lend (s .values) l) k
     add-kept x l c left-over p node number none t =
         let (f, adds) = t refl in
-        rw (
-          lend-at (s .values) l node (omega (arith, f .at-node .below, k .sized)) (enough x l c p node f),
-          restored-lend-set (s .values) l node (sum64 (getD (s .values) node 0) number) (omega (arith, f .at-node .below, k .sized, enough x l c p node f)),
-        )
+        rw (restored-lend-sum (s .values) l node number (omega (arith, f .at-node .below, k .sized, enough x l c p node f)))
         (touch-kept x l c p (didAdd node number) f
         (may-add (f .at-node .hold .mode) (rw (f .at-node .holds) at (not-false (addsOnly (stageAt (s .desk) p)) adds))))
 

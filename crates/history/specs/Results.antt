@@ -5,7 +5,7 @@ use mathlib.Core.List.{List, [], _∷_, map}
 use mathlib.Core.Bool.{cond}
 use Prim.Native.Nat.{ℕ, _<_}
 use lib.Dec.{ltb}
-use lib.ListN.{length, take}
+use lib.ListN.{length, take, drop}
 use Rattle.hierarchy.specs.Hierarchy.{edgesOf}
 use Rattle.locks.specs.declared.Mode.{Mode}
 use Rattle.locks.specs.Lent.{Hierarchy, lent}
@@ -17,7 +17,7 @@ use Rattle.desk.specs.declared.AddStep.{AddStep}
 use Rattle.desk.specs.declared.LeaveStep.{LeaveStep}
 use Rattle.desk.specs.Steps.{enterStep, getStep, putStep, addStep, leaveStep}
 use Rattle.desk.specs.Answers.{enterMeaning, getMeaning, putMeaning, addMeaning, leaveMeaning, Enters, Gets, Puts, Adds, Leaves}
-use Rattle.runs.specs.Run.{Event, entered, got, stored, added, left, listed}
+use Rattle.runs.specs.Run.{Lending, part, Call, enter as enterCall, get as getCall, put as putCall, add as addCall, leave as leaveCall, Step, Event, entered, got, stored, added, left, listed}
 
 -- a buffer is lent of a table: the table, with anything behind it; or it is too short, whatever it holds
 abbrev pub LentOf : List ℕ → List ℕ → Type 0
@@ -94,3 +94,29 @@ lastDesk d (m ∷ ms) = lastDesk (deskFrom (m .result)) ms
 unfoldable pub lastValues : List ℕ → List Made → List ℕ
 lastValues values [] = values
 lastValues values (m ∷ ms) = lastValues (valuesFrom values (m .result)) ms
+
+-- THE CALLS AS STEPS of a run. How a buffer was lent of a table: as much of it, and what stands behind it
+abbrev pub lending : List ℕ → List ℕ → Lending
+lending table buffer = part (length buffer) (drop (length table) buffer)
+
+-- which call it was: of the values it has how they were lent, not what they were
+unfoldable pub callFor : List ℕ → Result → Call
+callFor values (enter party mode names nameCount r) = enterCall party mode names nameCount
+callFor values (get party node buffer scratch r used) = getCall party node (lending values buffer) scratch
+callFor values (put party node value buffer scratch r after used) = putCall party node value (lending values buffer) scratch
+callFor values (add party node number buffer scratch r after used) = addCall party node number (lending values buffer) scratch
+callFor values (leave party list r after) = leaveCall party list
+
+-- the step: it has besides how the two tables were lent
+unfoldable pub stepFor : Hierarchy → List ℕ → Made → Step
+stepFor H values m =
+    record {
+      intervals = lending (H .intervals) (m .intervals);
+      edges = lending (edgesOf (H .edges) (H .edgeCount)) (m .edges);
+      call = callFor values (m .result);
+    }
+
+-- the steps of a list of calls, the first at these values
+unfoldable pub stepsFor : Hierarchy → List ℕ → List Made → List Step
+stepsFor H values [] = []
+stepsFor H values (m ∷ ms) = stepFor H values m ∷ stepsFor H (valuesFrom values (m .result)) ms

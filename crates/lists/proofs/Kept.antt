@@ -4,10 +4,52 @@ use mathlib.Core.List.{List, [], _∷_, _++_}
 use mathlib.Core.Bool.{Bool, true, false, _&&_}
 use Prim.Native.Nat.{ℕ, zero, suc}
 use lib.ListN.{take, drop}
-use Rattle.lists.specs.Lists.{every, keep, keptIf}
-use Rattle.lists.proofs.Bools.{and-left, and-right, and-both}
+use Rattle.lists.specs.Lists.{every, any, keep, keptIf}
+use Rattle.lists.proofs.Bools.{not-both, and-left, and-right, and-both, or-left, or-right}
+
+-- a list with an element is not empty
+pub nothing-there : {A P : Type 0} {x : A} {xs : List A} → x ∷ xs ≡ [] → P
+nothing-there e = not-both true refl cc
 
 module _ {A : Type 0} where
+  -- P of every element
+  abbrev pub All : (A → Type 0) → List A → Type 0
+  All P [] = Unit {0}
+  All P (x ∷ xs) = P x × All P xs
+
+  pub all-map : {P Q : A → Type 0} → ((x : A) → P x → Q x) → (xs : List A) → All P xs → All Q xs
+  all-map f [] h = tt
+  all-map f (x ∷ xs) h = (f x (h .0), all-map f xs (h .1))
+
+  pub all-snoc : (P : A → Type 0) (xs : List A) (x : A) → All P xs → P x → All P (xs ++ (x ∷ []))
+  all-snoc P [] x h k = (k, tt)
+  all-snoc P (y ∷ xs) x h k = (h .0, all-snoc P xs x (h .1) k)
+
+  pub all-front : (P : A → Type 0) (xs ys : List A) → All P (xs ++ ys) → All P xs
+  all-front P [] ys h = tt
+  all-front P (x ∷ xs) ys h = (h .0, all-front P xs ys (h .1))
+
+  pub all-insert : (P : A → Type 0) (xs ys : List A) (x : A) → P x → All P (xs ++ ys) → All P (xs ++ (x ∷ ys))
+  all-insert P [] ys x k h = (k, h)
+  all-insert P (y ∷ xs) ys x k h = (h .0, all-insert P xs ys x k (h .1))
+
+  pub all-every : (p : A → Bool) (xs : List A) → every p xs ≡ true → All (λ x. p x ≡ true) xs
+  unfolding every
+  all-every p [] h = tt
+  all-every p (x ∷ xs) h = (and-left (p x) (every p xs) h, all-every p xs (and-right (p x) (every p xs) h))
+
+  -- an element at which the test fails is not kept
+  pub keep-past : (p : A → Bool) (x : A) (xs ys : List A) → p x ≡ false → keep p (xs ++ (x ∷ ys)) ≡ keep p (xs ++ ys)
+  unfolding keep
+  keep-past p x [] ys e = rw e
+  keep-past p x (y ∷ xs) ys e = ap (keptIf (p y) y) (keep-past p x xs ys e)
+
+  -- where it holds nowhere, none is
+  pub keep-nowhere : (p : A → Bool) (xs : List A) → any p xs ≡ false → keep p xs ≡ []
+  unfolding any keep
+  keep-nowhere p [] e = refl
+  keep-nowhere p (x ∷ xs) e = rw (or-left (p x) (any p xs) e) (keep-nowhere p xs (or-right (p x) (any p xs) e))
+
   pub keep-none : (p q : A → Bool) → ((x : A) → q x ≡ true → p x ≡ false) → (xs : List A) → every q xs ≡ true → keep p xs ≡ []
   unfolding keep every
   keep-none p q f [] h = refl

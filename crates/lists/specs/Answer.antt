@@ -11,6 +11,11 @@ pub data Answer (A : Type 0) : Type 0 where
   done : A → Answer A
   refused : ℕ → Answer A
 
+-- it is done
+abbrev pub isDone : {A : Type 0} → Answer A → Bool
+isDone (done a) = true
+isDone (refused k) = false
+
 -- a refusal's number, and whether its condition holds
 pub record Check : Type 0 where
   pub number : ℕ

@@ -37,9 +37,9 @@ use Rattle.runs.specs.Over.{startOver, runOver}
 use Rattle.runs.proofs.Lends.{low-lent, high-lent}
 use Rattle.runs.proofs.Runs.{run-hierarchy, run-over}
 use Rattle.history.specs.Serial.{Built}
-use Rattle.history.specs.Results.{Made, AllMeet, toldByAll, lastDesk}
+use Rattle.history.specs.Results.{Made, AllMeet, toldByAll, lastDesk, stepsFor}
 use Rattle.history.proofs.Nested.{built-nested, name-below}
-use Rattle.history.proofs.Results.{stepsFor, results-run}
+use Rattle.history.proofs.Results.{results-run}
 use Rattle.soundness.specs.Refused.{isRefusal, refusedWith}
 use Rattle.soundness.proofs.Laws.{unchanged-get, unchanged-put, unchanged-add, fresh-sound}
 use Rattle.lists.proofs.Numbers.{isNumber, holdsWith, not-refused}
@@ -300,13 +300,13 @@ run-sound H b values steps =
 pub results-never-ten : (H : Hierarchy) → Built H → (values : List ℕ) → length values ≡ H .n → (made : List Made) → AllMeet H freshDesk values made
     → any (refusedWith 10) (toldByAll made) ≡ false
 results-never-ten H b values sized made met =
-    sym (ap (λ (r : Ran). any (refusedWith 10) (r .events)) (results-run H b values sized made met)) ∙ never-ten H b values (stepsFor H values made)
+    sym (ap (λ (r : Ran). any (refusedWith 10) (r .events)) (results-run H b freshDesk values sized made met)) ∙ never-ten H b values (stepsFor H values made)
 
 -- and the desk that the last one handed back is sound
 pub results-sound : (H : Hierarchy) → Built H → (values : List ℕ) → length values ≡ H .n → (made : List Made) → AllMeet H freshDesk values made
     → soundDesk H (lastDesk freshDesk made) ≡ true
 results-sound H b values sized made met =
-    sym (ap (λ (r : Ran). soundDesk H (r .state .desk)) (results-run H b values sized made met)) ∙ run-sound H b values (stepsFor H values made)
+    sym (ap (λ (r : Ran). soundDesk H (r .state .desk)) (results-run H b freshDesk values sized made met)) ∙ run-sound H b values (stepsFor H values made)
 
 -- THE SAME with the hierarchy beside the state
 pub never-ten-over : (H : Hierarchy) → Built H → (values : List ℕ) (steps : List Step) → any (refusedWith 10) ((runOver H steps (startOver values)) .events) ≡ false

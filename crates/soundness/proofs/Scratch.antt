@@ -2,17 +2,18 @@
 use mathlib.Core.Path.{_≡_, refl, ap, _∙_}
 use mathlib.Core.List.{List}
 use mathlib.Core.Bool.{Bool, false, _||_}
-use mathlib.Core.Option.{Option, none, some}
+use mathlib.Core.Option.{Option, some}
 use Prim.Native.Nat.{ℕ}
 use lib.ListN.{getD, replicate}
 use Rattle.lists.specs.Lists.{over, any}
 use Rattle.lists.specs.Answer.{refused, Check, refusal}
 use Rattle.lists.proofs.Bools.{bool}
 use Rattle.lists.proofs.Refusals.{refused-here}
+use Rattle.lists.proofs.Numbers.{holdsWith, decides}
 use Rattle.locks.specs.Lent.{Hierarchy, tablesShort}
 use Rattle.desk.specs.declared.Desk.{Desk}
-use Rattle.desk.specs.Steps.{valuesShort, valueChecks, searchAfter, scratchLeft, getOwn, getUnless, getStep, putOwn, putUnless, putStep, sum64, addOwn, addStep}
-use Rattle.lists.proofs.Numbers.{holdsWith, decides}
+use Rattle.desk.specs.Steps.{valuesShort, valueChecks, searchAfter, scratchLeft, getOwn, getStep, putOwn, putStep, sum64, addOwn, addStep}
+use Rattle.runs.proofs.Lends.{get-left, put-left}
 use Rattle.soundness.proofs.Numbers.{get-turned-away, put-turned-away}
 
 module _ (H : Hierarchy) (d : Desk) (party node : ℕ) (values scratch : List ℕ) where
@@ -28,16 +29,6 @@ module _ (H : Hierarchy) (d : Desk) (party node : ℕ) (values scratch : List �
   left-other : (own : List Check) → (refusal (valueChecks H d party node values scratch own) ≡ some 1 → ⊥) → scratchLeft H values scratch ≡ over (replicate 256 0) scratch
   left-other own n = bool short (λ t. absurd (n (refused-here _ _ t))) (λ t. ap (λ (b : Bool). searchAfter b scratch) t)
 
-  -- whatever it answers, a get has what it is left,
-  get-left : (o : Option ℕ) (x : ℕ) (c : List ℕ) → (getUnless o d x c) .scratch ≡ c
-  get-left (some k) x c = refl
-  get-left none x c = refl
-
-  -- and so has a put or add
-  put-left : (o : Option ℕ) (x : ℕ) (c : List ℕ) → (putUnless o d node x values c) .scratch ≡ c
-  put-left (some k) x c = refl
-  put-left none x c = refl
-
   -- what each of them is refused with
   abbrev refusalOf : List Check → Option ℕ
   refusalOf own = refusal (valueChecks H d party node values scratch own)
@@ -51,26 +42,26 @@ module _ (H : Hierarchy) (d : Desk) (party node : ℕ) (values scratch : List �
   unfolding getStep any
   get-scratch-one e =
       let o = refusalOf (getOwn d party) in
-      get-left o (getD values node 0) leftOver ∙ left-one (getOwn d party) refl (get-turned-away o d (getD values node 0) 1 leftOver .0 e)
+      get-left o d (getD values node 0) leftOver ∙ left-one (getOwn d party) refl (get-turned-away o d (getD values node 0) 1 leftOver .0 e)
 
   -- and after any other end its first 256 bytes are zero, the rest unchanged
   pub get-scratch-other : ((getStep H d party node values scratch) .answer ≡ refused 1 → ⊥) → (getStep H d party node values scratch) .scratch ≡ over (replicate 256 0) scratch
   unfolding getStep
   get-scratch-other n =
       let o = refusalOf (getOwn d party) in
-      get-left o (getD values node 0) leftOver ∙ left-other (getOwn d party) (λ e. n (get-turned-away o d (getD values node 0) 1 leftOver .1 e))
+      get-left o d (getD values node 0) leftOver ∙ left-other (getOwn d party) (λ e. n (get-turned-away o d (getD values node 0) 1 leftOver .1 e))
 
   -- PUT
   pub put-scratch-one : (value : ℕ) → (putStep H d party node value values scratch) .answer ≡ refused 1 → (putStep H d party node value values scratch) .scratch ≡ scratch
   unfolding putStep any
   put-scratch-one value e =
-      let o = refusalOf (putOwn d party) in put-left o value leftOver ∙ left-one (putOwn d party) refl (put-turned-away o d node value 1 values leftOver .0 e)
+      let o = refusalOf (putOwn d party) in put-left o d node value values leftOver ∙ left-one (putOwn d party) refl (put-turned-away o d node value 1 values leftOver .0 e)
 
   pub put-scratch-other : (value : ℕ) → ((putStep H d party node value values scratch) .answer ≡ refused 1 → ⊥)
       → (putStep H d party node value values scratch) .scratch ≡ over (replicate 256 0) scratch
   unfolding putStep
   put-scratch-other value n =
-      let o = refusalOf (putOwn d party) in put-left o value leftOver ∙ left-other (putOwn d party) (λ e. n (put-turned-away o d node value 1 values leftOver .1 e))
+      let o = refusalOf (putOwn d party) in put-left o d node value values leftOver ∙ left-other (putOwn d party) (λ e. n (put-turned-away o d node value 1 values leftOver .1 e))
 
   -- ADD
   pub add-scratch-one : (number : ℕ) → (addStep H d party node number values scratch) .answer ≡ refused 1 → (addStep H d party node number values scratch) .scratch ≡ scratch
@@ -78,7 +69,7 @@ module _ (H : Hierarchy) (d : Desk) (party node : ℕ) (values scratch : List �
   add-scratch-one number e =
       let o = refusalOf (addOwn d party) in
       let sum : ℕ = sum64 (getD values node 0) number in
-      put-left o sum leftOver ∙ left-one (addOwn d party) refl (put-turned-away o d node sum 1 values leftOver .0 e)
+      put-left o d node sum values leftOver ∙ left-one (addOwn d party) refl (put-turned-away o d node sum 1 values leftOver .0 e)
 
   pub add-scratch-other : (number : ℕ) → ((addStep H d party node number values scratch) .answer ≡ refused 1 → ⊥)
       → (addStep H d party node number values scratch) .scratch ≡ over (replicate 256 0) scratch
@@ -86,4 +77,4 @@ module _ (H : Hierarchy) (d : Desk) (party node : ℕ) (values scratch : List �
   add-scratch-other number n =
       let o = refusalOf (addOwn d party) in
       let sum : ℕ = sum64 (getD values node 0) number in
-      put-left o sum leftOver ∙ left-other (addOwn d party) (λ e. n (put-turned-away o d node sum 1 values leftOver .1 e))
+      put-left o d node sum values leftOver ∙ left-other (addOwn d party) (λ e. n (put-turned-away o d node sum 1 values leftOver .1 e))

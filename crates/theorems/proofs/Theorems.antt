@@ -1,5 +1,5 @@
 -- THE THEOREMS OF THE DESK, in full, in the order of the customer's demands. Each is proved by citing the one that a crate below proves: with a hypothesis
--- more or a clause less there it would no longer fit. Some of points 4, 5, 6, 8 and 9 no crate below states: they follow here, in a few lines, from laws and definitions below.
+-- more or a clause less there it would no longer fit. Some of points 4, 5, 6, 8, 9 and 10 no crate below states: they follow here, in a few lines, from laws and definitions below.
 -- What the terms mean is in the definitions, crates/*/specs; what each function does is its contract, in crates/*/src, where demand 1 is carried: no public
 -- function has a `requires`, and each result is equated with a definition. Assumes nothing.
 use mathlib.Core.Path.{_≡_, refl, sym, ap, subst, _∙_}
@@ -43,17 +43,19 @@ use Rattle.desk.specs.Sound.{soundDesk}
 use Rattle.desk.specs.declared.EnterStep.{EnterStep}
 use Rattle.desk.specs.declared.EnterAnswer.the-variants.{Waits}
 use Rattle.desk.specs.Steps.{granted, waits as waiting, enterRefusal, enterStep, stepChecks, valuesShort, getStep, putStep, addStep, leaveStep}
-use Rattle.runs.specs.Run.{Step, Event, entered as entered-with, left as left-with, State, start, Ran, run}
+use Rattle.runs.specs.Run.{Lending, get as get-call, put as put-call, add as add-call, Step, lentTo, Event, entered as entered-with, left as left-with, State, start, moveCall, move, Ran, run}
 use Rattle.runs.specs.Over.{startOver, runOver}
 use Rattle.history.specs.History.{history, grantedIn, bareEvent, opsIn, countedFrom, serialFinds, serialLeaves}
 use Rattle.history.specs.Serial.{Built, SerialSteps}
 use Rattle.desk.specs.Answers.{Enters, Gets, Puts, Adds, Leaves}
-use Rattle.history.specs.Results.{Result, enter, get, put, add, leave, Made, Meets, deskFrom, valuesFrom, AllMeet, toldByAll, lastDesk, lastValues}
+use Rattle.history.specs.Results.{Result, enter, get, put, add, leave, Made, Meets, deskFrom, valuesFrom, AllMeet, toldByAll, lastDesk, lastValues, stepsFor}
 use Rattle.soundness.specs.Refused.{refusedWith}
 use Rattle.soundness.specs.Given.{givenIn, Keeps}
 use Rattle.fairness.specs.AnySteps.{AnyStep, enterWith, moveAny, runAny, HostCall, CallsMeet, toldBack, deskAfter}
 use Rattle.fairness.specs.Ahead.{isPresent, ahead, frontOf, inFront, others, isLeave, isEnter, hasLeft, allLeft, visitLeft}
 use Rattle.fairness.specs.Rules.{Rules, paperRules, newcomersPass, fromTheBack, onlyHolders, enterBy, runBy}
+use Rattle.swaps.specs.Order.{isAccess, partyOf, eventParty, notRefused, scratchFrom, Told, tellAll, Swapped, toldOf, eventsOf as ofParty, cleared, Rearranged, Merged}
+use Rattle.swaps.specs.Rules.{Rules as SwapRules, paperRules as swapPapers, getsCount, writersPass, addersPass, addersGet, stepBy, NeighboursMaySwap}
 use Rattle.file_laws.specs.Files.{eventsOf}
 use Rattle.replay.specs.Replay.{waits, stored, left, FileRun, granted as admitted, refused as denied, recordList, stepRecords, sizeOf, edgeTable, edgeCountOf, builtOf, valuesIn, startOf, answersOf}
 use Rattle.replay.specs.Replay.{holdersAt, fileRun, performAll, runFile}
@@ -98,6 +100,10 @@ use Rattle.fairness.proofs.Visits as visits
 use Rattle.fairness.proofs.Fairness as waited
 use Rattle.fairness.proofs.Hosts as hosts
 use Rattle.fairness.proofs.Shams as shams
+use Rattle.swaps.proofs.Accesses as accessed
+use Rattle.swaps.proofs.Swaps as swapped
+use Rattle.swaps.proofs.Hosts as own-calls
+use Rattle.swaps.proofs.Shams as sham-swaps
 use Rattle.opening.specs.declared.OpenAnswer.the-variants.{Opened}
 use Rattle.opening.specs.Opening.{openFile}
 use Rattle.texts.specs.Lines.{stepLines, endLine, partyLine, partyLines, endLines, listing as listingOf}
@@ -1111,6 +1117,124 @@ cut-nothing = cut-whole.cut-nothing
 cut-file-twice : (file : List ℕ) (j k : ℕ) (room room′ : List ℕ) (m : ℕ) → (cutFile file j room) .answer ≡ done m → length file ≤ length room′
     → cutFile (take (512 * m) ((cutFile file j room) .room)) k room′ ≡ cutFile file (j + k) room′
 cut-file-twice = cuts.cut-file-twice
+
+-- 02, POINT 10. NEIGHBOURS MAY SWAP. Over a built hierarchy, from any desk and values: two steps, each a get, put or add, of different parties. In either order both get the same answers, the desk and values
+-- left are the same, and each leaves its own scratch the same. 02 asks this where both parties hold and neither step is refused; refused ones may swap, too, with the same refusals
+neighbours-may-swap : (s : State) → Built (s .hierarchy) → (x y : Step) → isAccess x ≡ true → isAccess y ≡ true → (partyOf x ≡ partyOf y → ⊥)
+    → let x-first = move x s in let y-second = move y (x-first .state) in let y-first = move y s in let x-second = move x (y-first .state) in
+    (x-second .event ≡ x-first .event) × (y-second .event ≡ y-first .event)
+    × (x-second .state .hierarchy ≡ y-second .state .hierarchy) × (x-second .state .desk ≡ y-second .state .desk) × (x-second .state .values ≡ y-second .state .values)
+    × (scratchFrom (lentTo x (y-first .state .hierarchy)) (x .call) (y-first .state) ≡ scratchFrom (lentTo x (s .hierarchy)) (x .call) s)
+    × (scratchFrom (lentTo y (x-first .state .hierarchy)) (y .call) (x-first .state) ≡ scratchFrom (lentTo y (s .hierarchy)) (y .call) s)
+neighbours-may-swap s b x y ax ay ne =
+    let w = swapped.neighbours-may-swap s b x y ax ay ne in (
+      ap (λ (t : Told). t .event) (w .first),
+      ap (λ (t : Told). t .event) (w .second),
+      ap (λ (t : State). t .hierarchy) (w .state),
+      ap (λ (t : State). t .desk) (w .state),
+      ap (λ (t : State). t .values) (w .state),
+      ap (λ (t : Told). t .scratch) (w .first),
+      ap (λ (t : Told). t .scratch) (w .second),
+    )
+
+-- such a step, refused or not, leaves hierarchy and desk as they were,
+access-keeps : (s : State) (x : Step) → isAccess x ≡ true → ((move x s) .state .hierarchy ≡ s .hierarchy) × ((move x s) .state .desk ≡ s .desk)
+access-keeps = accessed.access-keeps
+
+-- looks at how long its scratch is, and not at what stands in it,
+scratch-unread : (H : Hierarchy) (s : State) (party node : ℕ) (l : Lending) (c c′ : List ℕ) → length c ≡ length c′
+    → (moveCall H (get-call party node l c) s ≡ moveCall H (get-call party node l c′) s)
+    × ((value : ℕ) → moveCall H (put-call party node value l c) s ≡ moveCall H (put-call party node value l c′) s)
+    × ((number : ℕ) → moveCall H (add-call party node number l c) s ≡ moveCall H (add-call party node number l c′) s)
+scratch-unread = accessed.scratch-unread
+
+-- and, where it is not refused, is of a party that holds
+done-holds : (s : State) (x : Step) → isAccess x ≡ true → notRefused ((move x s) .event) ≡ true → (l : Lock) × (stageAt (s .desk) (partyOf x) ≡ Holding l)
+done-holds = accessed.access-holds
+
+-- two adds at one node are in it
+adds-may-swap : (s : State) → Built (s .hierarchy) → (i e l i′ e′ l′ : Lending) (p q node a b : ℕ) (c c′ : List ℕ) → (p ≡ q → ⊥)
+    → Swapped (record { intervals = i; edges = e; call = add-call p node a l c }) (record { intervals = i′; edges = e′; call = add-call q node b l′ c′ }) s
+adds-may-swap s built i e l i′ e′ l′ p q node a b c c′ ne =
+    swapped.neighbours-may-swap s built (record { intervals = i; edges = e; call = add-call p node a l c }) (record { intervals = i′; edges = e′; call = add-call q node b l′ c′ }) refl refl ne
+
+-- ANY REARRANGEMENT of such steps that keeps each party's own order: the same desk and values are left, each party gets the same answers in its order, and what is told of each of its steps (which it
+-- is, its answer, the scratch that it left) is the same
+any-rearrangement : (s : State) → Built (s .hierarchy) → (one other : List Step) → every isAccess one ≡ true
+    → ((party : ℕ) → keep (λ x. eqb (partyOf x) party) one ≡ keep (λ x. eqb (partyOf x) party) other)
+    → ((run other s) .state ≡ (run one s) .state)
+    × ((party : ℕ) → keep (λ e. eqb (eventParty e) party) ((run other s) .events) ≡ keep (λ e. eqb (eventParty e) party) ((run one s) .events))
+    × ((party : ℕ) → keep (λ t. eqb (partyOf (t .step)) party) (tellAll other s) ≡ keep (λ t. eqb (partyOf (t .step)) party) (tellAll one s))
+any-rearrangement s b one other accesses same =
+    let w = swapped.any-rearrangement s b one other accesses same in (w .state, swapped.same-events s one other w, w .told)
+
+-- what is told of a list are its steps, with their events
+all-told : (steps : List Step) (s : State) → (map (λ t. t .step) (tellAll steps s) ≡ steps) × (map (λ t. t .event) (tellAll steps s) ≡ (run steps s) .events)
+all-told = swapped.all-told
+
+-- and each is told with what it was answered, and the scratch that it left, at the state that those before it left
+told-each : (x : Step) (steps : List Step) (s : State)
+    → tellAll (x ∷ steps) s ≡ record { step = x; event = (move x s) .event; scratch = scratchFrom (lentTo x (s .hierarchy)) (x .call) s } ∷ tellAll steps ((move x s) .state)
+unfolding tellAll
+told-each x steps s = refl
+
+-- whatever stands in the scratches: a list leaves and answers what it does with zeros there (`cleared`), so a rearrangement may have other contents in them, as where one scratch serves all steps
+any-scratch : (s : State) → Built (s .hierarchy) → (one other : List Step) → every isAccess one ≡ true → Rearranged (map cleared one) (map cleared other)
+    → ((run other s) .state ≡ (run one s) .state) × ((party : ℕ) → ofParty party ((run other s) .events) ≡ ofParty party ((run one s) .events))
+any-scratch = swapped.any-scratch
+
+run-cleared : (steps : List Step) (s : State) → run (map cleared steps) s ≡ run steps s
+run-cleared = swapped.run-cleared
+
+-- a run of such steps within a longer list, with any steps before and behind it: so all of the list comes to the same
+within-a-list : (s : State) → Built (s .hierarchy) → (before one other behind : List Step) → every isAccess one ≡ true → Rearranged one other
+    → let first = before ++ (one ++ behind) in let second = before ++ (other ++ behind) in
+    ((run second s) .state ≡ (run first s) .state) × ((party : ℕ) → toldOf party (tellAll second s) ≡ toldOf party (tellAll first s))
+within-a-list s b before one other behind accesses same = let w = swapped.in-a-list s b before one other behind accesses same in (w .state, w .told)
+
+-- TWO LINES, no party on both, each taken in its own order: however their gets, puts and adds are merged, it comes to the same
+two-lines : (s : State) → Built (s .hierarchy) → (line other one two : List Step) → every isAccess line ≡ true → every isAccess other ≡ true
+    → every (λ x. not (any (λ y. eqb (partyOf y) (partyOf x)) other)) line ≡ true → Merged line other one → Merged line other two
+    → ((run two s) .state ≡ (run one s) .state) × ((party : ℕ) → toldOf party (tellAll two s) ≡ toldOf party (tellAll one s))
+two-lines s b line other one two a c away m k = let w = swapped.two-lines s b line other one two a c away m k in (w .state, w .told)
+
+-- within a longer list, too
+two-lines-within : (s : State) → Built (s .hierarchy) → (before line other one two behind : List Step) → every isAccess line ≡ true → every isAccess other ≡ true
+    → every (λ x. not (any (λ y. eqb (partyOf y) (partyOf x)) other)) line ≡ true → Merged line other one → Merged line other two
+    → let first = before ++ (one ++ behind) in let second = before ++ (two ++ behind) in
+    ((run second s) .state ≡ (run first s) .state) × ((party : ℕ) → toldOf party (tellAll second s) ≡ toldOf party (tellAll first s))
+two-lines-within s b before line other one two behind a c away m k = let w = swapped.two-lines-within s b before line other one two behind a c away m k in (w .state, w .told)
+
+-- OF A HOST'S OWN CALLS, from their results alone: gets, puts and adds made in two orders from one desk and n values, each result as the contract of its method has it, and each party's calls the same in the
+-- same order (`stepsFor`: buffers as long, with the same contents past the table's own places, and a scratch as long, whatever stood in it): the last desk and values are the same, and each party was answered the same
+results-rearranged : (H : Hierarchy) → Built H → (d : Desk) (values : List ℕ) → length values ≡ H .n → (one other : List Made) → Contracts H d values one → Contracts H d values other
+    → every isAccess (stepsFor H values one) ≡ true → Rearranged (map cleared (stepsFor H values one)) (map cleared (stepsFor H values other))
+    → (lastDesk d other ≡ lastDesk d one) × (lastValues values other ≡ lastValues values one) × ((party : ℕ) → ofParty party (toldByAll other) ≡ ofParty party (toldByAll one))
+results-rearranged H b d values sized one other c c′ = own-calls.results-rearranged H b d values sized one other (all-met H d values one c) (all-met H d values other c′)
+
+-- IT IS THE RULES' DOING. Point 10 of a desk with these rules (as which mode a visit is seen where it is asked whether two holds conflict, whose get is turned away with 18, and what a get leaves), where neither is refused, as 02 has it
+abbrev SwapsBy : SwapRules → Type 0
+SwapsBy rules =
+    (s : State) → Built (s .hierarchy) → (x y : Step) → isAccess x ≡ true → isAccess y ≡ true → (partyOf x ≡ partyOf y → ⊥)
+    → let x-first = stepBy rules x s in let y-second = stepBy rules y (x-first .state) in let y-first = stepBy rules y s in let x-second = stepBy rules x (y-first .state) in
+    notRefused (x-first .event) ≡ true → notRefused (y-second .event) ≡ true
+    → (x-second .event ≡ x-first .event) × (y-second .event ≡ y-first .event) × (x-second .state ≡ y-second .state)
+
+-- by the papers' rules a step is the desk's,
+paper-steps : (x : Step) (s : State) → stepBy swapPapers x s ≡ move x s
+paper-steps = sham-swaps.step-same
+
+-- and the claim holds;
+papers-swap : SwapsBy swapPapers
+papers-swap s b x y ax ay ne nx ny = let w = sham-swaps.papers-swap s b x y ax ay ne nx ny in (w .first, w .second, w .state)
+
+-- it is false of a desk on which a get counts itself, of one that lets readers in beside a writer, of one that lets them in beside an adder, and of one that lets an adding visit get
+others-do-not-swap : (SwapsBy getsCount → ⊥) × (SwapsBy writersPass → ⊥) × (SwapsBy addersPass → ⊥) × (SwapsBy addersGet → ⊥)
+others-do-not-swap =
+    (λ c. sham-swaps.counts-no-swap (whole c), λ c. sham-swaps.writers-no-swap (whole c), λ c. sham-swaps.adders-no-swap (whole c), λ c. sham-swaps.gets-no-swap (whole c))
+  where
+    whole : {rules : SwapRules} → SwapsBy rules → NeighboursMaySwap rules
+    whole c s b x y ax ay ne nx ny = let (first, second, state) = c s b x y ax ay ne nx ny in record { first = first; second = second; state = state }
 
 -- THE STARRED CASES, with the papers' figures, those of {8}, of the ninth case and of the listing as document 02's points 1 and 4 have them: each passes, by computation. Table T and
 -- the table of the ninth case
