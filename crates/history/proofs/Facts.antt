@@ -11,7 +11,7 @@ use lib.ListN.{length, set, replicate, length-set}
 use borrow.Author.Tests.{eq-eqb, leb-true, ltb-true, ltb-false, not-true}
 use Rattle.lists.specs.Lists.{allBelow, anyBelow}
 use Rattle.lists.specs.Answer.{Check, refusal}
-use Rattle.lists.proofs.Bools.{bool, and-left, and-right}
+use Rattle.lists.proofs.Bools.{bool, and-left, and-right, or-left}
 use Rattle.lists.proofs.Bounded.{all-at}
 use Rattle.locks.specs.declared.Lock.{Lock}
 use Rattle.locks.specs.declared.Stage.{Stage}
@@ -202,3 +202,7 @@ module _ (H : Hierarchy) (d : Desk) (party node : ℕ) (values scratch : List �
   -- its own check refuses nothing either
   pub touch-own : refusal own ≡ none
   touch-own = node-own-none H d party node own (step-own H d party _ _ e)
+
+-- the n values are lent
+pub touch-long : (H : Hierarchy) (d : Desk) (party node : ℕ) (values scratch : List ℕ) → Touch H d party node values scratch → H .n ≤ length values
+touch-long H d party node values scratch t = ltb-false (length values) (H .n) (or-left (ltb (length values) (H .n)) (ltb (length scratch) 256) (t .step .own-lent))

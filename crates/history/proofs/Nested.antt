@@ -30,7 +30,7 @@ use Rattle.desk.specs.Sound.{soundDesk}
 use Rattle.runs.specs.Run.{Lending, whole, part, lend, Step, lentTo}
 use Rattle.runs.proofs.Lends.{low-lent, high-lent}
 use Rattle.history.specs.Serial.{Built}
-use Rattle.history.proofs.Facts.{Touch}
+use Rattle.history.proofs.Facts.{right-ordered, Touch}
 
 -- THE HIERARCHY: two numbers for each node and each edge, and intervals that lie one inside the other along reach
 pub record Nested (H : Hierarchy) : Type 0 where
@@ -126,3 +126,11 @@ touch-inside H nested x d p node values scratch t = by (any-found (λ name. flag
         inside-on H name node (t .at-node .hold)
         (rw (low-lent H (nested .two-each) x name below (t .step .intervals-lent), high-lent H (nested .two-each) x name below (t .step .intervals-lent)) at kept)
         (nested .inside name node below (t .at-node .below) f)
+
+-- and it has a number, as refusal 10 found none wrong
+pub touch-ordered : (H : Hierarchy) → Nested H → (x : Step) (d : Desk) (p node : ℕ) (values scratch : List ℕ) → (t : Touch (lentTo x H) d p node values scratch) → lowIn H node ≤ highIn H node
+unfolding lentTo
+touch-ordered H nested x d p node values scratch t =
+    let low = low-lent H (nested .two-each) x node (t .at-node .below) (t .step .intervals-lent) in
+    let high = high-lent H (nested .two-each) x node (t .at-node .below) (t .step .intervals-lent) in
+    rw (low, high) at (right-ordered (lentTo x H) (t .step .intervals-right) node (t .at-node .below))

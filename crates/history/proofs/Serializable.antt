@@ -6,13 +6,13 @@ use mathlib.Core.Bool.{Bool, true, false, not, _||_, true≢false}
 use mathlib.Core.Option.{Option, none, some}
 use Prim.Native.Nat.{ℕ, suc, _+_, _≤_}
 use native.Mathlib.Omega.{arith}
-use lib.Dec.{eqb, leb, ltb}
+use lib.Dec.{eqb, leb}
 use lib.ListN.{length, getD, set, take, drop, replicate, length-set, length-replicate}
 use lib.Seq.{take-append-seam}
-use borrow.Author.Tests.{eqb-true, eqb-false, eq-eqb, leb-true, le-leb, ltb-false, not-false}
+use borrow.Author.Tests.{eqb-true, eqb-false, eq-eqb, leb-true, le-leb, not-false}
 use Rattle.lists.specs.Lists.{keep, over}
 use Rattle.lists.specs.Answer.{Check, refusal}
-use Rattle.lists.proofs.Bools.{and-left, and-right, or-left}
+use Rattle.lists.proofs.Bools.{and-left, and-right}
 use Rattle.lists.proofs.Refusals.{NoneHolds, refusal-none}
 use Rattle.locks.specs.declared.Mode.{Mode}
 use Rattle.locks.specs.declared.Mode.the-variants.{Reading, Writing, Adding}
@@ -29,7 +29,7 @@ use Rattle.desk.specs.Steps.{getUnless, getStep, putUnless, putStep, addStep, l
 use Rattle.runs.specs.Run.{Lending, lend, Call, enter, get, put, add, leave, Step, lentTo, State, start}
 use Rattle.runs.specs.Run.{Moved, afterEnter, afterGet, afterPut, afterAdd, listed, afterLeave, moveCall, move, alsoRan, run}
 use Rattle.runs.specs.Over.{startOver, runOver}
-use Rattle.runs.proofs.Lends.{lend-at, restored-lend, restored-lend-set, restored-lend-sum, low-lent, high-lent}
+use Rattle.runs.proofs.Lends.{lend-at, restored-lend, restored-lend-set, restored-lend-sum}
 use Rattle.runs.proofs.Runs.{run-over}
 use Rattle.history.specs.History.{Op, didGet, didPut, didAdd, Transaction, begun, visited, addToLatest, noted, historyFrom, history}
 use Rattle.history.specs.History.{bare, bareEvent, opsIn, counted, countedFrom, finds, leaves, serialFinds, serialLeaves}
@@ -38,9 +38,9 @@ use Rattle.desk.specs.declared.Desk.{Desk}
 use Rattle.desk.specs.Desks.{stageAt, queueOf}
 use Rattle.history.proofs.Rows.{compatible-sym, nodeOf, modeOf, Commute, commute-sym, Clear, Clear-map, Clear-new, Clear-granted, Clear-add}
 use Rattle.history.proofs.Rows.{Clear-visited, insert-leaves, insert-finds, append-leaves, append-finds, opsIn-add, opsIn-new, row-order}
-use Rattle.history.proofs.Nested.{Nested, built-nested, touch-inside}
+use Rattle.history.proofs.Nested.{Nested, built-nested, touch-inside, touch-ordered}
 use Rattle.history.proofs.Modes.{is-adding, is-writing}
-use Rattle.history.proofs.Facts.{set-stage, holder-below, all-out, sweep-length, sweep-holds, holders-apart, right-ordered, Touch, touch, touch-own}
+use Rattle.history.proofs.Facts.{set-stage, holder-below, all-out, sweep-length, sweep-holds, holders-apart, Touch, touch, touch-own, touch-long}
 
 -- MODES AND LOCKS. What a visit may do: get in a reading one, get and put in a writing one, add in an adding one
 pub permits : Mode → Mode → Bool
@@ -252,9 +252,7 @@ module _ (u : List ℕ) where
     unfolding lentTo
     touch-kept x l c p o t own =
         let at-node = t .at-node in
-        let low = low-lent H (k .nested .two-each) x (nodeOf o) (at-node .below) (t .step .intervals-lent) in
-        let high = high-lent H (k .nested .two-each) x (nodeOf o) (at-node .below) (t .step .intervals-lent) in
-        touched p (at-node .hold) o (at-node .holds) (rw (low, high) at (right-ordered (lentTo x H) (t .step .intervals-right) (nodeOf o) (at-node .below)))
+        touched p (at-node .hold) o (at-node .holds) (touch-ordered H (k .nested) x (s .desk) p (nodeOf o) (lend (s .values) l) c t)
         (touch-inside H (k .nested) x (s .desk) p (nodeOf o) (lend (s .values) l) c t) own
         (λ q g ne e. holders-apart (lentTo x H) (s .desk) (t .step .sound) p q (at-node .hold) g (t .step .party-below)
         (omega (arith, holder-below (s .desk .entries) q g e, k .parties)) ne (at-node .holds) e)
@@ -262,9 +260,7 @@ module _ (u : List ℕ) where
     -- the n values are lent
     enough : (x : Step) (l : Lending) (c : List ℕ) (p node : ℕ) → Touch (lentTo x H) (s .desk) p node (lend (s .values) l) c → length (s .values) ≤ length (lend (s .values) l)
     unfolding lentTo
-    enough x l c p node t =
-        let e = ltb-false (length (lend (s .values) l)) (H .n) (or-left (ltb (length (lend (s .values) l)) (H .n)) (ltb (length c) 256) (t .step .own-lent)) in
-        omega (arith, k .sized)
+    enough x l c p node t = omega (arith, touch-long (lentTo x H) (s .desk) p node (lend (s .values) l) c t, k .sized)
 
     get-kept : (x : Step) (l : Lending) (c left-over : List ℕ) (p node : ℕ) (o : Option ℕ)
         → (o ≡ none → Touch (lentTo x H) (s .desk) p node (lend (s .values) l) c × (addsOnly (stageAt (s .desk) p) ≡ false))

@@ -9,9 +9,8 @@ use Prim.Native.Nat.{ℕ, _≤_, _<_}
 use native.Mathlib.Omega.{arith}
 use lib.Dec.{ltb}
 use lib.ListN.{length, getD, replicate, length-replicate}
-use borrow.Author.Tests.{ltb-false, not-false}
+use borrow.Author.Tests.{not-false}
 use Rattle.lists.specs.Answer.{answerOf, Check, refusal}
-use Rattle.lists.proofs.Bools.{or-left}
 use Rattle.lists.proofs.Refusals.{NoneHolds, refusal-none}
 use Rattle.locks.specs.declared.Lock.{Lock}
 use Rattle.locks.specs.declared.Stage.the-variants.{Holding}
@@ -23,11 +22,11 @@ use Rattle.desk.specs.Sound.{soundDesk}
 use Rattle.desk.specs.Steps.{stepChecks, nodeChecks, valueChecks, scratchLeft, getOwn, getUnless, getStep, putOwn, putUnless, putStep, sum64, addOwn, addStep}
 use Rattle.runs.specs.Run.{Lending, lend, Call, enter, get, put, add, leave, Step, lentTo, Event, got, stored, added, State}
 use Rattle.runs.specs.Run.{afterGet, afterPut, afterAdd, moveCall, move}
-use Rattle.runs.proofs.Lends.{lend-long, lend-other, restored-lend, restored-lend-set, restored-lend-sum, get-left, put-left, low-lent, high-lent}
+use Rattle.runs.proofs.Lends.{lend-long, lend-other, restored-lend, restored-lend-set, restored-lend-sum, get-left, put-left}
 use Rattle.history.specs.History.{Op, didGet, didPut, didAdd, leaves}
 use Rattle.history.proofs.Rows.{nodeOf, modeOf, Commute, commute-leaves}
-use Rattle.history.proofs.Facts.{holders-apart, right-ordered, Touch, touch, touch-own}
-use Rattle.history.proofs.Nested.{Nested, touch-inside}
+use Rattle.history.proofs.Facts.{holders-apart, Touch, touch, touch-own, touch-long}
+use Rattle.history.proofs.Nested.{Nested, touch-inside, touch-ordered}
 use Rattle.history.proofs.Serializable.{permits, may-get, may-put, may-add, length-leaves, holders-commute}
 use Rattle.swaps.specs.Order.{accesses, isAccess, callParty, partyOf, notRefused, scratchFrom, Told, tell, Swapped, callCleared, cleared}
 
@@ -92,10 +91,7 @@ module _ (K : Hierarchy) (d : Desk) (p : ℕ) (l : Lending) (c : List ℕ) (o : 
   knows v e = touch K d p (nodeOf o) (lend v l) c (ownBy d p o) e
 
   place-lent : (v : List ℕ) → refusalAt v ≡ none → nodeOf o < length (lend v l)
-  place-lent v e =
-      let t = knows v e in
-      let n = ltb-false (length (lend v l)) (K .n) (or-left (ltb (length (lend v l)) (K .n)) (ltb (length c) 256) (t .step .own-lent)) in
-      omega (arith, t .at-node .below, n)
+  place-lent v e = let t = knows v e in omega (arith, t .at-node .below, touch-long K d p (nodeOf o) (lend v l) c t)
 
 -- WHAT IT DOES: the desk stays; values and event are these
 module _ (K : Hierarchy) (s : State) (p : ℕ) (l : Lending) (c : List ℕ) where
@@ -187,13 +183,11 @@ module _ (H : Hierarchy) (nested : Nested H) (d : Desk) where
   does x p l c o v e =
       let t = knows (lentTo x H) d p l c o v e in
       let at-node = t .at-node in
-      let low = low-lent H (nested .two-each) x (nodeOf o) (at-node .below) (t .step .intervals-lent) in
-      let high = high-lent H (nested .two-each) x (nodeOf o) (at-node .below) (t .step .intervals-lent) in
       record {
         party-below = t .step .party-below;
         hold = at-node .hold;
         holds = at-node .holds;
-        ordered = rw (low, high) at (right-ordered (lentTo x H) (t .step .intervals-right) (nodeOf o) (at-node .below));
+        ordered = touch-ordered H nested x d p (nodeOf o) (lend v l) c t;
         within = touch-inside H nested x d p (nodeOf o) (lend v l) c t;
         own = own-permits d p (at-node .hold) (at-node .holds) o (refusal-none (ownBy d p o) (touch-own (lentTo x H) d p (nodeOf o) (lend v l) c (ownBy d p o) e));
         tables = lentTo x H;

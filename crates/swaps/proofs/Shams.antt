@@ -17,6 +17,7 @@ use Rattle.intervals.specs.Intervals.{numbersAmong, lowOf, highOf, intervalsFro
 use Rattle.intervals.specs.Build.{buildStep}
 use Rattle.covers.specs.Cover.{closest}
 use Rattle.naming.specs.Names.{insert, insertAll, risesFrom}
+use Rattle.locks.specs.declared.Mode.{Mode}
 use Rattle.locks.specs.declared.Mode.the-variants.{Reading, Writing, Adding}
 use Rattle.locks.specs.declared.Lock.{Lock}
 use Rattle.locks.specs.declared.Stage.{Stage}
@@ -160,77 +161,51 @@ module _ (rules : Rules) (s : State) (x : Step) where
       other (ap valueOf (sym then ∙ claim s (subst Built (sym over) one-built) x get1 ax refl (λ same. let n : _≡_ {A = ℕ} 0 1 = sym zero ∙ same in omega (arith, n))
       (ap notRefused its ∙ done-so) (ap notRefused then) .second ∙ first))
 
--- A GET COUNTS ITSELF: both read. Behind 0's get that of 1 is answered 6, and before it 5
-abbrev readers : State
-readers = both (Holding (whole Reading)) (Holding (whole Reading))
+-- THE CASES: 0 reads, writes or adds, and 1 reads; and both add
+abbrev beside : Mode → State
+beside mode = both (Holding (whole mode)) (Holding (whole Reading))
 
-pub counts-told : Hangs getsCount readers get0 (got 0 0 (done 5)) 6 5
-unfolding allBelow anyBelow every any keep over refusal someEdge spread spreads reach risesFrom soundParties lend restored lentTo moveBy afterPut afterAdd
-counts-told = (refl, refl, refl)
-
-pub counts-no-swap : NeighboursMaySwap getsCount → ⊥
-counts-no-swap = no-swap getsCount readers get0 refl refl refl (got 0 0 (done 5)) refl 6 5 (λ e. omega (arith, e)) counts-told
-
--- READERS BESIDE A WRITER: 0 writes, and 1 is let in to read. Behind 0's put 1 is answered 7, and before it 5
-abbrev writerReader : State
-writerReader = both (Holding (whole Writing)) (Holding (whole Reading))
-
-pub writers-let-in : let after = stepBy writersPass reads1 (both (Holding (whole Writing)) Out) in
-    (after .event ≡ entered 1 (done (granted 0))) × (after .state .desk .entries ≡ writerReader .desk .entries)
-unfolding allBelow anyBelow every any keep over foldFrom least greatest refusal someEdge closest insert insertAll risesFrom soundParties lend lentTo moveBy afterEnter
-writers-let-in = (refl, refl)
-
-pub writers-told : Hangs writersPass writerReader put7 (stored 0 0 7 (done tt)) 7 5
-unfolding allBelow anyBelow every any keep over refusal someEdge spread spreads reach risesFrom soundParties lend restored lentTo moveBy afterPut afterAdd
-writers-told = (refl, refl, refl)
-
-pub writers-no-swap : NeighboursMaySwap writersPass → ⊥
-writers-no-swap = no-swap writersPass writerReader put7 refl refl refl (stored 0 0 7 (done tt)) refl 7 5 (λ e. omega (arith, e)) writers-told
-
--- READERS BESIDE AN ADDER: 0 adds, and 1 is let in to read. Behind 0's add 1 is answered 7, and before it 5
-abbrev adderReader : State
-adderReader = both (Holding (whole Adding)) (Holding (whole Reading))
-
-pub adders-let-in : let after = stepBy addersPass reads1 (both (Holding (whole Adding)) Out) in
-    (after .event ≡ entered 1 (done (granted 0))) × (after .state .desk .entries ≡ adderReader .desk .entries)
-unfolding allBelow anyBelow every any keep over foldFrom least greatest refusal someEdge closest insert insertAll risesFrom soundParties lend lentTo moveBy afterEnter
-adders-let-in = (refl, refl)
-
-pub adders-told : Hangs addersPass adderReader add2 (added 0 0 2 (done tt)) 7 5
-unfolding allBelow anyBelow every any keep over refusal someEdge spread spreads reach risesFrom soundParties lend restored lentTo moveBy afterPut afterAdd
-adders-told = (refl, refl, refl)
-
-pub adders-no-swap : NeighboursMaySwap addersPass → ⊥
-adders-no-swap = no-swap addersPass adderReader add2 refl refl refl (added 0 0 2 (done tt)) refl 7 5 (λ e. omega (arith, e)) adders-told
-
--- AN ADDING VISIT GETS: both add. Behind 0's add the get of 1 is answered 7, and before it 5
 abbrev adders : State
 adders = both (Holding (whole Adding)) (Holding (whole Adding))
 
-pub gets-told : Hangs addersGet adders add2 (added 0 0 2 (done tt)) 7 5
+-- a reader is let in beside one in this mode, which makes the case; and by the papers' rules it waits
+abbrev LetIn : Rules → Mode → Type 0
+LetIn rules mode =
+    let after = stepBy rules reads1 (both (Holding (whole mode)) Out) in (after .event ≡ entered 1 (done (granted 0))) × (after .state .desk .entries ≡ (beside mode) .desk .entries)
+
+pub readers-let-in : LetIn writersPass Writing × LetIn addersPass Adding
+unfolding allBelow anyBelow every any keep over foldFrom least greatest refusal someEdge closest insert insertAll risesFrom soundParties lend lentTo moveBy afterEnter
+readers-let-in = ((refl, refl), (refl, refl))
+
+pub readers-wait : map (λ mode. (stepBy paperRules reads1 (both (Holding (whole mode)) Out)) .event) (Writing ∷ Adding ∷ []) ≡ replicate 2 (entered 1 (done waits))
+unfolding allBelow anyBelow every any keep over foldFrom least greatest refusal someEdge closest insert insertAll risesFrom soundParties lend lentTo moveBy afterEnter
+readers-wait = refl
+
+-- EACH OTHER DESK, IN ITS OWN CASE: where a get counts itself, both read, and behind 0's get that of 1 is answered 6, and before it 5. Where readers are let in beside a writer, or an adder, 1 is answered 7 behind 0's put, or add, and 5 before it;
+-- and where an adding visit gets, both add, and 1 is answered likewise
+pub others-told : Hangs getsCount (beside Reading) get0 (got 0 0 (done 5)) 6 5 × Hangs writersPass (beside Writing) put7 (stored 0 0 7 (done tt)) 7 5
+    × Hangs addersPass (beside Adding) add2 (added 0 0 2 (done tt)) 7 5 × Hangs addersGet adders add2 (added 0 0 2 (done tt)) 7 5
 unfolding allBelow anyBelow every any keep over refusal someEdge spread spreads reach risesFrom soundParties lend restored lentTo moveBy afterPut afterAdd
-gets-told = (refl, refl, refl)
+others-told = ((refl, refl, refl), (refl, refl, refl), (refl, refl, refl), (refl, refl, refl))
+
+-- so the claim is false of it
+pub counts-no-swap : NeighboursMaySwap getsCount → ⊥
+counts-no-swap = no-swap getsCount (beside Reading) get0 refl refl refl (got 0 0 (done 5)) refl 6 5 (λ e. omega (arith, e)) (others-told .0)
+
+pub writers-no-swap : NeighboursMaySwap writersPass → ⊥
+writers-no-swap = no-swap writersPass (beside Writing) put7 refl refl refl (stored 0 0 7 (done tt)) refl 7 5 (λ e. omega (arith, e)) (others-told .1)
+
+pub adders-no-swap : NeighboursMaySwap addersPass → ⊥
+adders-no-swap = no-swap addersPass (beside Adding) add2 refl refl refl (added 0 0 2 (done tt)) refl 7 5 (λ e. omega (arith, e)) (others-told .2)
 
 pub gets-no-swap : NeighboursMaySwap addersGet → ⊥
-gets-no-swap = no-swap addersGet adders add2 refl refl refl (added 0 0 2 (done tt)) refl 7 5 (λ e. omega (arith, e)) gets-told
+gets-no-swap = no-swap addersGet adders add2 refl refl refl (added 0 0 2 (done tt)) refl 7 5 (λ e. omega (arith, e)) (others-told .3)
 
--- BY THE PAPERS' RULES, in the same cases: both gets are answered 5; a desk where one writes or adds and another reads is not sound; a get in an adding visit gets 18
-pub papers-told : ((stepBy paperRules get1 ((stepBy paperRules get0 readers) .state)) .event ≡ got 1 0 (done 5)) × ((stepBy paperRules get1 writerReader) .event ≡ got 1 0 (refused 10))
-    × ((stepBy paperRules get1 adderReader) .event ≡ got 1 0 (refused 10)) × ((stepBy paperRules get1 adders) .event ≡ got 1 0 (refused 18))
-unfolding allBelow anyBelow every any keep over refusal someEdge spread spreads reach risesFrom soundParties lend restored lentTo moveBy afterPut afterAdd
-papers-told = (refl, refl, refl, refl)
-
--- and 1 waits, whether 0 writes or adds
-pub papers-let-none-in : ((stepBy paperRules reads1 (both (Holding (whole Writing)) Out)) .event ≡ entered 1 (done waits))
-    × ((stepBy paperRules reads1 (both (Holding (whole Adding)) Out)) .event ≡ entered 1 (done waits))
-unfolding allBelow anyBelow every any keep over foldFrom least greatest refusal someEdge closest insert insertAll risesFrom soundParties lend lentTo moveBy afterEnter
-papers-let-none-in = (refl, refl)
-
--- EACH OTHER DESK ANSWERS ITS OWN CASE OTHERWISE, AND THE OTHERS' AS THE PAPERS DO. A get by 1, where 0 writes or adds and 1 reads (10 by the papers), where both add (18), and behind a get by 0 where both read (5)
+-- AND THE OTHERS' CASES IT ANSWERS AS THE PAPERS DO. A get by 1, where 0 writes or adds and 1 reads (10 by the papers: the desk is not sound), where both add (18), and behind a get by 0 where both read (5)
 abbrev seenBy : Rules → List (Event ℕ)
 seenBy rules =
-    (stepBy rules get1 writerReader) .event ∷ (stepBy rules get1 adderReader) .event ∷ (stepBy rules get1 adders) .event
-    ∷ (stepBy rules get1 ((stepBy rules get0 readers) .state)) .event ∷ []
+    (stepBy rules get1 (beside Writing)) .event ∷ (stepBy rules get1 (beside Adding)) .event ∷ (stepBy rules get1 adders) .event
+    ∷ (stepBy rules get1 ((stepBy rules get0 (beside Reading)) .state)) .event ∷ []
 
 pub one-place-only : (seenBy paperRules ≡ got 1 0 (refused 10) ∷ got 1 0 (refused 10) ∷ got 1 0 (refused 18) ∷ got 1 0 (done 5) ∷ [])
     × (seenBy getsCount ≡ got 1 0 (refused 10) ∷ got 1 0 (refused 10) ∷ got 1 0 (refused 18) ∷ got 1 0 (done 6) ∷ [])
