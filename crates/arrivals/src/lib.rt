@@ -1,4 +1,6 @@
 // Arrival lists: parties at the first places, and how many. No public function asks anything of what it is given.
+#![tactic(auto)]
+
 ghost use Rattle.std.specs.Prelude.{◌≡◌, not, ◌∷◌, [], ◌++◌, eqb, ltb, ◌≤◌, min, set};
 ghost use Rattle.lists.specs.Lists.{all_below, any_below, keep};
 ghost use Rattle.arrivals.specs.Arrivals.{listed_in, list_of, queue_places, Lists};

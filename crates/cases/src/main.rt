@@ -1,5 +1,7 @@
 // The documents' cases of building, also in the plain way, covers and reach that must be seen from running code. Standard input has a line for each; each is written out again with
 // what the code answers. A line's first letter says what it does, and its numbers are all that is taken from the rest.
+#![tactic(auto)]
+
 ghost use Rattle.std.specs.Prelude.{◌≤◌};
 
 use intervals::BuildAnswer;

@@ -1,4 +1,6 @@
 // Over an interval table of any contents: the interval of a node, the interval of a call and its cover.
+#![tactic(auto)]
+
 ghost use Rattle.std.specs.Prelude.{◌≡◌, List, [], ◌∷◌, ◌++◌, ℕ, ◌+◌, ◌/◌, ◌≤◌, min, max, length};
 ghost use Rattle.covers.specs.Cover.{interval_at, call_interval, one_more, contains as containing, width as width_of, closer as is_closer, closest as closest_of, cover_of};
 

@@ -1,4 +1,6 @@
 // The program that cuts a file: k is its argument, the file is on standard input, and the shorter file goes to standard output.
+#![tactic(auto)]
+
 ghost use Rattle.std.specs.Prelude.{◌≡◌, length};
 
 use shorter::CutAnswer;

@@ -1,1 +1,2 @@
 // Definitions and laws only: a file cut after its first k steps.
+#![tactic(auto)]

@@ -1,4 +1,6 @@
 // The desk: who may be in which nodes. The desk, what its five steps answer, and the steps.
+#![tactic(auto)]
+
 ghost use Rattle.std.specs.Prelude.{◌≡◌, ◌<◌, ◌≤◌, ◌||◌, [], length, take, replicate, nat_lt};
 ghost use Rattle.lists.specs.Lists.{over};
 ghost use Rattle.locks.specs.Lent.{lent, tables_short};

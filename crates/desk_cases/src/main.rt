@@ -2,6 +2,8 @@
 // grants at their stop. Standard input has a line for each call; each is written out again with what the desk answers. A line's first letter says what it does. Behind its word stand
 // 22 digits of intervals, 22 of edges and 10 of names, then columns of numbers. The desk goes on from line to line. Besides the two steps there are lines that make the desk by hand,
 // and one that shows what a listing has after its steps. Get, put and add are in `value_cases`.
+#![tactic(auto)]
+
 ghost use Rattle.std.specs.Prelude.{length, ◌≡◌};
 
 use arrivals::PARTIES;

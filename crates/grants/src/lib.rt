@@ -1,4 +1,6 @@
 // The counts of grants, one for each party, and their sum. No public function asks anything of what it is given.
+#![tactic(auto)]
+
 ghost use Rattle.std.specs.Prelude.{◌≡◌, ◌≤◌, length, take};
 ghost use Rattle.lists.specs.Lists.{sum};
 ghost use Rattle.grants.specs.Grants.{one_grant_more, count_grant, count_grants};

@@ -1,4 +1,6 @@
 // The hierarchy: edges, reach, and refusals 5 to 9. No public function asks anything of what it is lent.
+#![tactic(auto)]
+
 ghost use Rattle.std.specs.Prelude.{◌≡◌, ◌+◌, ◌*◌, ◌/◌, min, eqb, length, get_or, set, drop, replicate};
 ghost use Rattle.lists.specs.Lists.{any, over, zeros, Went, Below};
 ghost use Rattle.lists.specs.Answer.{refusal, number_of};

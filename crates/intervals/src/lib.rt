@@ -1,4 +1,6 @@
 // The numbering walk, intervals and building.
+#![tactic(auto)]
+
 ghost use Rattle.std.specs.Prelude.{◌≡◌, true, false, ℕ, ◌*◌, ◌<◌, ◌≤◌, length, get_or, take, replicate};
 ghost use Rattle.lists.specs.Lists.{Went, zeros};
 ghost use Rattle.hierarchy.specs.Hierarchy.{edges_of};

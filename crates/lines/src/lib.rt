@@ -1,4 +1,6 @@
 // A file listed into lent bytes: its steps performed and their lines put, whole or in pieces.
+#![tactic(auto)]
+
 ghost use Rattle.std.specs.Prelude.{◌≡◌, true, ◌-◌, ◌*◌, ◌≤◌, length, take};
 ghost use Rattle.lists.specs.Lists.{every};
 ghost use Rattle.lists.specs.Answer.{done};

@@ -1,1 +1,2 @@
 // What a link does to the tables. Its functions follow.
+#![tactic(auto)]

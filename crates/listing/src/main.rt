@@ -1,4 +1,6 @@
 // The listing program: one file on standard input, its listing on standard output, written in pieces.
+#![tactic(auto)]
+
 ghost use Rattle.std.specs.Prelude.{◌≡◌, ◌+◌, ◌*◌, ◌≤◌, min, length};
 ghost use Rattle.locks.specs.Lent.{lent};
 ghost use Rattle.desk.specs.Desks.{fresh_desk};

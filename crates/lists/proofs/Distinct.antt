@@ -46,6 +46,7 @@ any_found p (x ∷ xs) e = or_either (p x) (any p xs) e (λ t. (x, head, t)) (λ
 -- where it holds at every element it holds at each member,
 pub every_in : (p : ℕ → Bool) {x : ℕ} {xs : List ℕ} → every p xs ≡ true → In x xs → p x ≡ true
 unfolding every
+every_in p {xs = []} e i = elim i [ ]
 every_in p {xs = y ∷ ys} e head = and_left (p y) (every p ys) e
 every_in p {xs = y ∷ ys} e (tail i) = every_in p (and_right (p y) (every p ys) e) i
 
@@ -78,6 +79,7 @@ in_place (tail i) = let (k, h, e) = in_place i in (suc k, omega arith, e)
 
 -- MEMBERS of two lists joined, with x between them or not
 pub in_front_law : {x : ℕ} (xs ys : List ℕ) → In x xs → In x (xs ++ ys)
+in_front_law [] ys i = elim i [ ]
 in_front_law (x ∷ xs) ys head = head
 in_front_law (x ∷ xs) ys (tail i) = tail (in_front_law xs ys i)
 

@@ -1,4 +1,6 @@
 // Locks: modes, holds and waiting calls, their conflict, the hierarchy as a step is lent it, and the conflict call for the C host.
+#![tactic(auto)]
+
 ghost use Rattle.std.specs.Prelude.{◌≡◌, true, not, ◌||◌, ltb, ◌*◌, ◌≤◌, [], length, take, replicate};
 ghost use Rattle.lists.specs.Lists.{any_below, any, every};
 ghost use Rattle.locks.specs.Locks.{compatible as going_together, conflict as conflicting, real_interval, is_mode, is_hold, mode_when, mode_number, lock_numbered, conflict_call};

@@ -1,4 +1,6 @@
 // The report over a file (02, point 2): all waits, and the needless ones.
+#![tactic(auto)]
+
 ghost use Rattle.std.specs.Prelude.{◌≡◌, true, not, ◌+◌, ◌*◌, ◌<◌, ◌≤◌, length, take, replicate};
 ghost use Rattle.lists.specs.Lists.{one, every};
 ghost use Rattle.hierarchy.specs.Hierarchy.{edges_of};

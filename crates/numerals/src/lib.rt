@@ -1,4 +1,6 @@
 // A decimal number in text, of any size.
+#![tactic(auto)]
+
 ghost use Rattle.std.specs.Prelude.{◌≡◌, ◌+◌, ◌*◌, ◌-◌, min};
 ghost use Rattle.numerals.specs.Numerals.{is_decimal, decimal_number};
 

@@ -1,4 +1,6 @@
 // Bytes: numbers in them, low byte first, writing them into a lent room, and the check (Fletcher-32).
+#![tactic(auto)]
+
 ghost use Rattle.std.specs.Prelude.{◌≡◌, ◌+◌, ◌*◌, ◌/◌, ◌%◌, ◌<◌, ◌≤◌, min, leb, length, drop, replicate};
 ghost use Rattle.octets.specs.Bytes.{byte, number2, number4, number8, bytes4, zero_from, zero_between};
 ghost use Rattle.octets.specs.Fletcher.{words, sums, fletcher};

@@ -1,4 +1,6 @@
 // Opening a file: its records, its edge table and its intervals into lent places.
+#![tactic(auto)]
+
 ghost use Rattle.std.specs.Prelude.{◌≡◌, ◌*◌, ◌/◌, ◌≤◌, length};
 ghost use Rattle.lists.specs.Lists.{one, over};
 ghost use Rattle.blocks.specs.Record.{kind_of, step_kind};

@@ -1,4 +1,6 @@
 // Parties: their entries, who is free, and the test of a sound desk.
+#![tactic(auto)]
+
 ghost use Rattle.std.specs.Prelude.{◌≡◌, true, false, ◌&&◌, ◌||◌, not, ◌≤◌, ◌<◌, length};
 ghost use Rattle.lists.specs.Lists.{any_below};
 ghost use Rattle.locks.specs.declared.Lock as L;

@@ -1,4 +1,6 @@
 // The plain engine: each node's reach as a set, one bit for each node, and from it the least and the greatest number.
+#![tactic(auto)]
+
 ghost use Rattle.std.specs.Prelude.{◌≡◌, List, false, not, ℕ, ◌+◌, ◌*◌, ◌/◌, ◌<◌, ◌≤◌, eqb, length, get_or, drop, replicate};
 ghost use Rattle.std.specs.Int.Bits.{bit_and};
 ghost use Rattle.lists.specs.Lists.{over, Went, least, greatest};

@@ -1,4 +1,6 @@
 // A file's records as a hierarchy, values and steps: n, the edge table, the values at the start, and one step record performed on the desk.
+#![tactic(auto)]
+
 ghost use Rattle.std.specs.Prelude.{◌≡◌, ◌+◌, ◌*◌, ◌≤◌, length, eqb};
 ghost use Rattle.lists.specs.Lists.{over, one};
 ghost use Rattle.octets.specs.Writes.{over_at};

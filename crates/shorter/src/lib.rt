@@ -1,4 +1,6 @@
 // A file cut after its first k steps: the shorter file into a lent room.
+#![tactic(auto)]
+
 ghost use Rattle.std.specs.Prelude.{◌≡◌, true, ◌+◌, ◌*◌, ◌<◌, ◌≤◌, length, take};
 ghost use Rattle.lists.specs.Lists.{every, over};
 ghost use Rattle.octets.specs.Writes.{over_at};

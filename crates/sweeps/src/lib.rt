@@ -1,4 +1,6 @@
 // The pass over the waiters: a party leaves, and the others are taken once in arrival order.
+#![tactic(auto)]
+
 ghost use Rattle.std.specs.Prelude.{◌≡◌, ◌||◌, ◌≤◌, length, take, set};
 ghost use Rattle.arrivals.specs.Arrivals.{list_of};
 ghost use Rattle.parties.specs.Parties.{entry_of, meets_holder, meets_waiter};

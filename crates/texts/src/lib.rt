@@ -1,4 +1,6 @@
 // The lines of a listing and of the report, put into lent bytes as far as they fit: numbers, words, a step's line, the lines after the steps.
+#![tactic(auto)]
+
 ghost use Rattle.std.specs.Prelude.{◌≡◌, ◌++◌, ◌-◌, take, get_or};
 ghost use Rattle.lists.specs.Lists.{one};
 ghost use Rattle.lists.specs.Answer.{refused};

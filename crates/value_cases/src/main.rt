@@ -2,6 +2,8 @@
 // and scratch. Standard input has a line for each call; each is written out again with what the desk answers. A line's first letter says what it does. Behind its word stand 22 digits
 // of intervals, 22 of edges and 10 of names, then columns of numbers. Desk and values go on from line to line. Besides the three steps there are lines for what they need: enter and
 // leave, which say no answer here (`desk_cases` is about them), a desk made by hand, a fresh one, and a line that shows the values.
+#![tactic(auto)]
+
 ghost use Rattle.std.specs.Prelude.{◌≡◌, ◌≤◌, length};
 
 use arrivals::PARTIES;

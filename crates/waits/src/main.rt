@@ -1,4 +1,6 @@
 // The program of the report: one file on standard input, one line on standard output with two numbers, all waits and needless ones.
+#![tactic(auto)]
+
 ghost use Rattle.std.specs.Prelude.{◌≡◌, length};
 ghost use Rattle.texts.specs.Lines.{report_line};
 ghost use Rattle.texts.specs.Pages.{Puts};
