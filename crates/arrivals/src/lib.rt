@@ -9,7 +9,7 @@ ghost use Rattle.arrivals.specs.Arrivals.{listed_in, list_of, queue_places, List
 pub const PARTIES: usize = 32;
 
 // An arrival list: parties at the first places, and their count.
-#[derive(Drop)]
+#[derive(Clone, Copy)]
 pub struct Listed {
     pub places: [u8; PARTIES],
     pub count: usize,

@@ -27,21 +27,21 @@ const HEAD: usize = 8;
 const CHECK: usize = 508;
 
 // What reading a file answers: the count of its records.
-#[derive(Drop)]
+#[derive(Clone, Copy)]
 pub enum ReadAnswer {
     Records(usize),
     Refused(u8),
 }
 
 // What writing a file answers: the count of its blocks.
-#[derive(Drop)]
+#[derive(Clone, Copy)]
 pub enum WriteAnswer {
     Blocks(usize),
     Refused(u8),
 }
 
 // How far reading has come.
-#[derive(Drop)]
+#[derive(Clone, Copy)]
 pub struct ReadStage {
     // 0 no record yet, 1 the size record and edges, 2 values, 3 steps.
     pub at: u8,

@@ -5,7 +5,7 @@ ghost use Rattle.std.specs.Prelude.{◌≡◌, List, [], ◌∷◌, ◌++◌, �
 ghost use Rattle.covers.specs.Cover.{interval_at, call_interval, one_more, contains as containing, width as width_of, closer as is_closer, closest as closest_of, cover_of};
 
 // The interval of a node or of a call, from its low to its high.
-#[derive(Drop)]
+#[derive(Clone, Copy)]
 pub struct Interval {
     pub low: u16,
     pub high: u16,

@@ -15,7 +15,7 @@ use parties::Entry;
 use sweeps::Swept;
 
 // The desk: an entry for each of 32 parties, the waiting parties in arrival order at the front of the queue, and each party's count of grants.
-#[derive(Drop)]
+#[derive(Clone, Copy)]
 pub struct Desk {
     pub entries: [Entry; PARTIES],
     pub queue: [u8; PARTIES],
@@ -24,7 +24,7 @@ pub struct Desk {
 }
 
 // What enter answers.
-#[derive(Drop)]
+#[derive(Clone, Copy)]
 pub enum EnterAnswer {
     Granted(usize),
     Waits,
@@ -32,7 +32,7 @@ pub enum EnterAnswer {
 }
 
 // What get answers: no value is available to a party that waits.
-#[derive(Drop)]
+#[derive(Clone, Copy)]
 pub enum GetAnswer {
     Value(u64),
     Waiting,
@@ -40,70 +40,70 @@ pub enum GetAnswer {
 }
 
 // What put answers.
-#[derive(Drop)]
+#[derive(Clone, Copy)]
 pub enum PutAnswer {
     Stored,
     Refused(u8),
 }
 
 // What add answers.
-#[derive(Drop)]
+#[derive(Clone, Copy)]
 pub enum AddAnswer {
     Added,
     Refused(u8),
 }
 
 // What leave answers: the count of the parties that it granted.
-#[derive(Drop)]
+#[derive(Clone, Copy)]
 pub enum LeaveAnswer {
     Left(usize),
     Refused(u8),
 }
 
 // What link answers.
-#[derive(Drop)]
+#[derive(Clone, Copy)]
 pub enum LinkAnswer {
     Linked,
     Refused(u8),
 }
 
 // What enter hands back: the next desk, and its answer.
-#[derive(Drop)]
+#[derive(Clone, Copy)]
 pub struct EnterStep {
     pub desk: Desk,
     pub answer: EnterAnswer,
 }
 
 // What get hands back.
-#[derive(Drop)]
+#[derive(Clone, Copy)]
 pub struct GetStep {
     pub desk: Desk,
     pub answer: GetAnswer,
 }
 
 // What put hands back.
-#[derive(Drop)]
+#[derive(Clone, Copy)]
 pub struct PutStep {
     pub desk: Desk,
     pub answer: PutAnswer,
 }
 
 // What add hands back.
-#[derive(Drop)]
+#[derive(Clone, Copy)]
 pub struct AddStep {
     pub desk: Desk,
     pub answer: AddAnswer,
 }
 
 // What leave hands back.
-#[derive(Drop)]
+#[derive(Clone, Copy)]
 pub struct LeaveStep {
     pub desk: Desk,
     pub answer: LeaveAnswer,
 }
 
 // What link hands back.
-#[derive(Drop)]
+#[derive(Clone, Copy)]
 pub struct LinkStep {
     pub desk: Desk,
     pub answer: LinkAnswer,

@@ -14,7 +14,7 @@ pub const NODES: usize = 256;
 pub const EDGES: usize = 1024;
 
 // The two ends of an edge.
-#[derive(Drop)]
+#[derive(Clone, Copy)]
 pub struct Ends {
     pub parent: usize,
     pub child: usize,

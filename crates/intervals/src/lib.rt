@@ -14,7 +14,7 @@ ghost use Rattle.intervals.specs.Inner.{Ready, Fresh, is_better, improved, turn_
 pub const SCRATCH: usize = 512;
 
 // What building answers.
-#[derive(Drop)]
+#[derive(Clone, Copy)]
 pub enum BuildAnswer {
     Built,
     Refused(u8),

@@ -23,14 +23,14 @@ pub const VALUES: usize = 256;
 pub const TEXT_BYTES: usize = 635680;
 
 // What listing a file answers: how many bytes the listing has, or refused.
-#[derive(Drop)]
+#[derive(Clone, Copy)]
 pub enum ListingAnswer {
     Listed(usize),
     Refused(u8),
 }
 
 // Between two steps of a file: the desk, the number of the next step, and the place of its line.
-#[derive(Drop)]
+#[derive(Clone, Copy)]
 pub struct Progress {
     pub desk: Desk,
     pub number: usize,

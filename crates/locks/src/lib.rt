@@ -12,7 +12,7 @@ ghost use Rattle.locks.specs.Inner.{outside, lock_fits};
 use naming::Names;
 
 // A visit is reading, writing or adding.
-#[derive(Drop)]
+#[derive(Clone, Copy)]
 pub enum Mode {
     Reading,
     Writing,
@@ -20,7 +20,7 @@ pub enum Mode {
 }
 
 // A hold, or a waiting call: mode, cover, the cover's interval and the names. Its party is the place of its entry.
-#[derive(Drop)]
+#[derive(Clone, Copy)]
 pub struct Lock {
     pub mode: Mode,
     pub cover: u16,
@@ -30,7 +30,7 @@ pub struct Lock {
 }
 
 // A party is out, waiting or holding.
-#[derive(Drop)]
+#[derive(Clone, Copy)]
 pub enum Stage {
     Out,
     Waiting(Lock),

@@ -22,14 +22,14 @@ use reach_sets::NodeSet;
 use replay::Outcome;
 
 // What the report gives: how many enters were answered waits, and how many of these waits were needless.
-#[derive(Drop)]
+#[derive(Clone, Copy)]
 pub struct Waits {
     pub all: usize,
     pub needless: usize,
 }
 
 // Between two records of a file: the desk, and the waits so far.
-#[derive(Drop)]
+#[derive(Clone, Copy)]
 struct Progress {
     desk: Desk,
     waits: Waits,

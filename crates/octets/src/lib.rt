@@ -10,7 +10,7 @@ ghost use Rattle.octets.specs.Writes.{put_at};
 const MODULUS: u64 = 65535;
 
 // The two sums of the check.
-#[derive(Drop)]
+#[derive(Clone, Copy)]
 struct Sums {
     a: u64,
     b: u64,

@@ -25,7 +25,7 @@ pub const EDGE_PLACES: usize = 7936;
 pub const INTERVAL_PLACES: usize = 512;
 
 // What opening a file answers: n and how many edges and records it has, or refused.
-#[derive(Drop)]
+#[derive(Clone, Copy)]
 pub enum OpenAnswer {
     Opened(usize, usize, usize),
     Refused(u8),

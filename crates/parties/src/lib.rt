@@ -18,13 +18,13 @@ use locks::{Lock, Stage};
 const ROWS: usize = 96;
 
 // The entry of a party.
-#[derive(Drop)]
+#[derive(Clone, Copy)]
 pub struct Entry {
     pub stage: Stage,
 }
 
 // Locks as numbers, three to a row (mode, low, high), and the count of the rows.
-#[derive(Drop)]
+#[derive(Clone, Copy)]
 struct Holds {
     rows: [u16; ROWS],
     count: usize,

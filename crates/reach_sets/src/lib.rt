@@ -20,7 +20,7 @@ use intervals::BuildAnswer;
 pub const WORDS: usize = 1024;
 
 // A set of nodes: node i is bit i % 64 of word i / 64.
-#[derive(Drop)]
+#[derive(Clone, Copy)]
 pub struct NodeSet {
     pub words: [u64; 4],
 }

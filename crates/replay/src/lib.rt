@@ -16,7 +16,7 @@ use blocks::RECORD;
 use desk::{AddAnswer, Desk, EnterAnswer, GetAnswer, LeaveAnswer, PutAnswer};
 
 // What a step of a file answers, one value for the five kinds. `Left` counts the granted parties, which stand first in `Step::parties`.
-#[derive(Drop)]
+#[derive(Clone, Copy)]
 pub enum Outcome {
     Granted(usize),
     Waits,
@@ -28,7 +28,7 @@ pub enum Outcome {
 }
 
 // What a step of a file hands back: the next desk, the answer, and the parties that a leave granted, with zeros behind them.
-#[derive(Drop)]
+#[derive(Clone, Copy)]
 pub struct Step {
     pub desk: Desk,
     pub outcome: Outcome,
@@ -36,7 +36,7 @@ pub struct Step {
 }
 
 // What taking the edge table from the records answers: the count of edges.
-#[derive(Drop)]
+#[derive(Clone, Copy)]
 pub enum EdgesAnswer {
     Edges(usize),
     Refused(u8),

@@ -16,7 +16,7 @@ use desk::Desk;
 use opening::OpenAnswer;
 
 // What cutting a file answers: the count of blocks of the shorter file.
-#[derive(Drop)]
+#[derive(Clone, Copy)]
 pub enum CutAnswer {
     Cut(usize),
     Refused(u8),

@@ -12,7 +12,7 @@ use locks::{Lock, Stage};
 use parties::Entry;
 
 // What a pass over the waiters leaves: the entries, those that stay waiting, and those granted, each in order.
-#[derive(Drop)]
+#[derive(Clone, Copy)]
 pub struct Swept {
     pub entries: [Entry; PARTIES],
     pub stay: Listed,

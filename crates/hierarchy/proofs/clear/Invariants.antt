@@ -1,0 +1,13 @@
+-- `clear` meets its contract: zeros fill the slice from the front. Assumes nothing.
+use Prim.Native.Nat.{◌-◌}
+use native.Mathlib.Omega.{arith}
+use borrow.Author.Rules.{rules}
+use lib.ListN.{length, length-set}
+use Rattle.lists.proofs.Loops.{Filling, filling_start, filling_more, filling_end}
+use Rattle.hierarchy.proofs.clear.Given as goal
+
+abbrev pub invariant-loop-i : goal.invariant-loop-i
+invariant-loop-i l = Filling 0 l.initial.bytes l.bytes l.i
+
+abbrev pub decreases-loop-i : goal.decreases-loop-i
+decreases-loop-i l = length l.bytes - l.i

@@ -1,0 +1,22 @@
+-- `clear_words` meets its contract: zeros fill the words from the front. Assumes nothing.
+use Prim.Native.Nat.{◌-◌}
+use native.Mathlib.Omega.{arith}
+use lib.ListN.{length, length-set}
+use Rattle.lists.proofs.Loops.{Filling, filling_start, filling_more, filling_end}
+use borrow.Author.Rules.{rules}
+use Rattle.hierarchy.proofs.clear_words.Goals as goal
+
+pub loop-i-init : goal.loop-i-init
+loop-i-init c = filling_start 0 _
+
+pub loop-i-smaller : goal.loop-i-smaller
+loop-i-smaller c = simp length-set (omega arith)
+
+pub loop-i-preserved : goal.loop-i-preserved
+loop-i-preserved c = filling_more 0 _ c.loop-i.words c.loop-i.i c.loop-i.invariant c.loop-i-test.true
+
+pub shape_of-words : goal.shape_of-words
+shape_of-words c = c.loop-i.invariant.long
+
+pub returns : goal.returns
+returns c = filling_end 0 _ c.loop-i.words c.loop-i.i c.loop-i.invariant c.loop-i-test.false

@@ -1,0 +1,13 @@
+-- `clear_words` meets its contract: zeros fill the words from the front. Assumes nothing.
+use Prim.Native.Nat.{◌-◌}
+use native.Mathlib.Omega.{arith}
+use lib.ListN.{length, length-set}
+use Rattle.lists.proofs.Loops.{Filling, filling_start, filling_more, filling_end}
+use borrow.Author.Rules.{rules}
+use Rattle.hierarchy.proofs.clear_words.Given as goal
+
+abbrev pub invariant-loop-i : goal.invariant-loop-i
+invariant-loop-i l = Filling 0 l.initial.words l.words l.i
+
+abbrev pub decreases-loop-i : goal.decreases-loop-i
+decreases-loop-i l = length l.words - l.i

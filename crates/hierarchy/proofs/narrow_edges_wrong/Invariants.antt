@@ -1,0 +1,16 @@
+-- `narrow_edges_wrong` meets its contract: what was found, or what is left of the table, decides. Assumes nothing.
+use mathlib.Core.Path.{◌≡◌, refl, sym, ap, ◌∙◌}
+use mathlib.Core.Bool.{Bool, ◌||◌, or-false, or_assoc}
+use Prim.Native.Nat.{◌+◌, ◌-◌, ◌*◌, ◌<◌}
+use native.Mathlib.Omega.{arith}
+use lib.ListN.{length}
+use borrow.Author.Rules.{rules}
+use Rattle.hierarchy.specs.Hierarchy.{edges_of, some_edge, edge_wrong}
+use Rattle.hierarchy.proofs.EdgeLoops.{rest, rest_some, end_some}
+use Rattle.hierarchy.proofs.narrow_edges_wrong.Given as goal
+
+abbrev pub invariant-loop-e : goal.invariant-loop-e
+invariant-loop-e l = (l.wrong || some_edge (edge_wrong l.n) (rest l.edges l.edge_count l.e)) ≡ some_edge (edge_wrong l.n) (edges_of l.edges l.edge_count)
+
+abbrev pub decreases-loop-e : goal.decreases-loop-e
+decreases-loop-e l = l.whole - l.e

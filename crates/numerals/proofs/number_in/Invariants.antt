@@ -1,0 +1,15 @@
+-- `number_in` meets its contract: the number behind the digits left, from the one so far, is that of all, as far as it fits. Assumes nothing.
+use mathlib.Core.Path.{◌≡◌, refl}
+use Prim.Native.Nat.{◌-◌, ◌≤◌, min}
+use native.Mathlib.Omega.{arith}
+use borrow.Author.Rules.{rules}
+use lib.ListN.{length, drop}
+use Rattle.numerals.specs.Numerals.{decimal_from, decimal_number}
+use Rattle.numerals.proofs.Digits.{digit_turn, digits_end}
+use Rattle.numerals.proofs.number_in.Given as goal
+
+abbrev pub invariant-loop-i : goal.invariant-loop-i
+invariant-loop-i l = (l.i ≤ length l.text) × (l.x ≤ 18446744073709551615) × (min (decimal_from l.x (drop l.i l.text)) 18446744073709551615 ≡ min (decimal_number l.text) 18446744073709551615)
+
+abbrev pub decreases-loop-i : goal.decreases-loop-i
+decreases-loop-i l = length l.text - l.i
