@@ -1,9 +1,7 @@
 -- `clear` meets its contract: zeros fill the slice from the front. Assumes nothing.
-use Prim.Native.Nat.{◌-◌}
 use native.Mathlib.Omega.{arith}
-use borrow.Author.Rules.{rules}
-use lib.ListN.{length, length-set}
-use Rattle.lists.proofs.Loops.{Filling, filling_start, filling_more, filling_end}
+use lib.ListN.{length-set}
+use Rattle.lists.proofs.Loops.{filling_start, filling_more, filling_end}
 use Rattle.hierarchy.proofs.clear.Goals as goal
 
 pub loop-i-init : goal.loop-i-init

@@ -5,7 +5,6 @@ use native.Mathlib.Omega.{arith}
 use lib.ListN.{length, replicate}
 use lib.Seq.{length-take-le}
 use Rattle.lists.proofs.Parts.{laid, first_cleared, all_cleared}
-use borrow.Author.Rules.{rules}
 use Rattle.hierarchy.proofs.clear_first.Goals as goal
 
 pub returns-then-bytes-count : goal.returns-then-bytes-count

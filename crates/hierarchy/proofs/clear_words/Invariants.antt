@@ -1,9 +1,7 @@
 -- `clear_words` meets its contract: zeros fill the words from the front. Assumes nothing.
 use Prim.Native.Nat.{◌-◌}
-use native.Mathlib.Omega.{arith}
-use lib.ListN.{length, length-set}
-use Rattle.lists.proofs.Loops.{Filling, filling_start, filling_more, filling_end}
-use borrow.Author.Rules.{rules}
+use lib.ListN.{length}
+use Rattle.lists.proofs.Loops.{Filling}
 use Rattle.hierarchy.proofs.clear_words.Given as goal
 
 abbrev pub invariant-loop-i : goal.invariant-loop-i

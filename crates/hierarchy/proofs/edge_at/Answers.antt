@@ -2,7 +2,6 @@
 use lib.ListN.{get_or-eq_default}
 use Prim.Native.Nat.{◌+◌, ◌*◌}
 use native.Mathlib.Omega.{arith}
-use borrow.Author.Rules.{rules}
 use Rattle.hierarchy.proofs.edge_at.Goals as goal
 
 pub overflow_cast-result : goal.overflow_cast-result

@@ -1,10 +1,9 @@
 -- `edge_stands` meets its contract: what was found, or what is left of the table, decides. Assumes nothing.
-use mathlib.Core.Path.{◌≡◌, refl, sym, ap, ◌∙◌}
+use mathlib.Core.Path.{refl, sym, ap, ◌∙◌}
 use mathlib.Core.Bool.{Bool, ◌||◌, or-false, or_assoc}
-use Prim.Native.Nat.{◌+◌, ◌-◌, ◌*◌, ◌<◌}
+use Prim.Native.Nat.{◌+◌, ◌*◌, ◌<◌}
 use native.Mathlib.Omega.{arith}
 use lib.ListN.{length}
-use borrow.Author.Rules.{rules}
 use Rattle.hierarchy.specs.Hierarchy.{some_edge, same_edge}
 use Rattle.hierarchy.proofs.EdgeLoops.{rest, rest_some, end_some}
 use Rattle.hierarchy.proofs.edge_stands.Goals as goal

@@ -1,12 +1,8 @@
 -- `edge_twice` meets its contract: what is left of the table decides. Assumes nothing.
-use mathlib.Core.Path.{◌≡◌, refl, sym, ap, ◌∙◌}
-use mathlib.Core.Bool.{◌||◌}
-use Prim.Native.Nat.{◌+◌, ◌-◌, ◌*◌, ◌<◌}
-use native.Mathlib.Omega.{arith}
-use lib.ListN.{length}
-use borrow.Author.Rules.{rules}
+use mathlib.Core.Path.{◌≡◌}
+use Prim.Native.Nat.{◌-◌}
 use Rattle.hierarchy.specs.Hierarchy.{edges_of, edge_twice}
-use Rattle.hierarchy.proofs.EdgeLoops.{rest, rest_twice, end_twice}
+use Rattle.hierarchy.proofs.EdgeLoops.{rest}
 use Rattle.hierarchy.proofs.edge_twice.Given as goal
 
 abbrev pub invariant-loop-e : goal.invariant-loop-e

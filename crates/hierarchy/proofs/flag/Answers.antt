@@ -1,7 +1,6 @@
 -- `flag` meets its contract: a node past the flags is passed over. Assumes nothing.
 use mathlib.Core.Path.{sym}
 use lib.Seq.{set_out}
-use borrow.Author.Rules.{rules}
 use Rattle.hierarchy.proofs.flag.Goals as goal
 
 pub returns-else-node-flags : goal.returns-else-node-flags

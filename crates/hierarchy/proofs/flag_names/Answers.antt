@@ -1,9 +1,6 @@
 -- `flag_names` meets its contract: the names left, flagged over the flags as they are, give the flags of all. Assumes nothing.
-use Prim.Native.Nat.{◌-◌}
 use native.Mathlib.Omega.{arith}
-use lib.ListN.{length}
-use borrow.Author.Rules.{rules}
-use Rattle.hierarchy.proofs.Spreads.{Flagging, flagging_start, flagging_more, flagging_end}
+use Rattle.hierarchy.proofs.Spreads.{flagging_start, flagging_more, flagging_end}
 use Rattle.hierarchy.proofs.flag_names.Goals as goal
 
 pub loop-i-init : goal.loop-i-init

@@ -1,6 +1,5 @@
 -- `flag_reach` meets its contract: the names are flagged, and the flags spread. Assumes nothing.
 use lib.ListN.{length}
-use borrow.Author.Rules.{rules}
 use Rattle.hierarchy.proofs.Unions.{search_bits, search_all}
 use Rattle.hierarchy.proofs.flag_reach.Goals as goal
 

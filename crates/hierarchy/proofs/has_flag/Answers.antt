@@ -1,6 +1,5 @@
 -- `has_flag` meets its contract: a node past the flags has none. Assumes nothing.
 use lib.ListN.{get_or-eq_default}
-use borrow.Author.Rules.{rules}
 use Rattle.hierarchy.proofs.has_flag.Goals as goal
 
 pub returns : goal.returns

@@ -3,13 +3,12 @@ use mathlib.Core.Path.{ap, ◌∙◌}
 use mathlib.Core.List.{List}
 use Prim.Native.Nat.{ℕ}
 use lib.ListN.{replicate}
-use borrow.Author.Rules.{rules}
 use Rattle.hierarchy.specs.Hierarchy.{flagged}
 use Rattle.hierarchy.proofs.Unions.{reach_names}
 use Rattle.hierarchy.proofs.in_reach.Goals as goal
 
 pub returns : goal.returns
-returns c = (
-  c.has_flag-found.ensures ∙ ap (λ (flags : List ℕ). flagged flags c.args.node) c.flag_reach.ensures ∙ reach_names _ _ c.args.names.now c.args.node,
-  c.clear.ensures ∙ ap (λ (n : ℕ). replicate n 0) c.flag_reach.auto.flags.1.1.0,
-)
+returns c = record {
+  value = c.has_flag-found.ensures ∙ ap (λ (flags : List ℕ). flagged flags c.args.node) c.flag_reach.ensures ∙ reach_names _ _ c.args.names.now c.args.node;
+  flags_after = c.clear.ensures ∙ ap (λ (n : ℕ). replicate n 0) c.flag_reach.auto.flags;
+}

@@ -1,6 +1,5 @@
 -- `lacks_flag` meets its contract: a node past the flags is not among them. Assumes nothing.
 use borrow.Author.Tests.{lt-ltb, le-ltb}
-use borrow.Author.Rules.{rules}
 use Rattle.hierarchy.proofs.lacks_flag.Goals as goal
 
 pub returns-then-node-flags : goal.returns-then-node-flags

@@ -1,12 +1,9 @@
 -- `narrow_edges_wrong` meets its contract: what was found, or what is left of the table, decides. Assumes nothing.
-use mathlib.Core.Path.{◌≡◌, refl, sym, ap, ◌∙◌}
-use mathlib.Core.Bool.{Bool, ◌||◌, or-false, or_assoc}
-use Prim.Native.Nat.{◌+◌, ◌-◌, ◌*◌, ◌<◌}
-use native.Mathlib.Omega.{arith}
-use lib.ListN.{length}
-use borrow.Author.Rules.{rules}
+use mathlib.Core.Path.{◌≡◌}
+use mathlib.Core.Bool.{◌||◌}
+use Prim.Native.Nat.{◌-◌}
 use Rattle.hierarchy.specs.Hierarchy.{edges_of, some_edge, edge_wrong}
-use Rattle.hierarchy.proofs.EdgeLoops.{rest, rest_some, end_some}
+use Rattle.hierarchy.proofs.EdgeLoops.{rest}
 use Rattle.hierarchy.proofs.narrow_edges_wrong.Given as goal
 
 abbrev pub invariant-loop-e : goal.invariant-loop-e

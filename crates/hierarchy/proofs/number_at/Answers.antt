@@ -1,7 +1,6 @@
 -- `number_at` meets its contract: past the end of the table stands 0. Assumes nothing.
 use lib.ListN.{get_or-eq_default}
 use mathlib.Core.Path.{sym}
-use borrow.Author.Rules.{rules}
 use Rattle.hierarchy.proofs.number_at.Goals as goal
 
 pub returns : goal.returns

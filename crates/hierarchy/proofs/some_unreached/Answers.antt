@@ -3,7 +3,6 @@ use mathlib.Core.Path.{ap, ◌∙◌}
 use mathlib.Core.List.{List}
 use Prim.Native.Nat.{ℕ}
 use lib.Dec.{eqb}
-use borrow.Author.Rules.{rules}
 use Rattle.lists.specs.Lists.{any}
 use Rattle.hierarchy.specs.Hierarchy.{flag_all, reach_all, reach, some_unreached}
 use Rattle.hierarchy.proofs.some_unreached.Goals as goal

@@ -1,11 +1,7 @@
 -- `some_zero` meets its contract: a search for a 0. Assumes nothing.
-use mathlib.Core.Path.{◌≡◌, refl, sym}
-use Prim.Native.Nat.{◌-◌}
+use mathlib.Core.Path.{refl, sym}
 use lib.Dec.{eqb}
-use lib.ListN.{length, drop}
-use borrow.Author.Rules.{rules}
 use borrow.Author.Tests.{eq-eqb, ne_eqb}
-use Rattle.lists.specs.Lists.{any}
 use Rattle.lists.proofs.Loops.{any_stop, any_next, any_end}
 use Rattle.hierarchy.proofs.some_zero.Goals as goal
 

@@ -1,7 +1,7 @@
 -- `spread_all` meets its contract: passes back and on keep what all stable flags have, until one on changes nothing. Assumes nothing.
 use Rattle.hierarchy.specs.Hierarchy.{edges_of}
 use Rattle.lists.specs.Lists.{one_if, zeros}
-use Rattle.hierarchy.proofs.Spreads.{Reaching, reaching_start, reaching_more, reaching_less, reaching_end}
+use Rattle.hierarchy.proofs.Spreads.{Reaching}
 use Rattle.hierarchy.proofs.spread_all.Given as goal
 
 abbrev pub invariant-loop-on : goal.invariant-loop-on

@@ -1,11 +1,7 @@
 -- `spread_back` meets its contract: each turn flags what its edge leads to. Assumes nothing.
 use mathlib.Core.Path.{sym, ◌∙◌}
-use Prim.Native.Nat.{◌-◌, ◌/◌, ◌≤◌, min}
+use Prim.Native.Nat.{◌-◌}
 use native.Mathlib.Omega.{arith}
-use lib.ListN.{length}
-use borrow.Author.Rules.{rules}
-use Rattle.hierarchy.specs.Hierarchy.{edges_of}
-use Rattle.hierarchy.specs.Inner.{Grown}
 use Rattle.hierarchy.proofs.Spreads.{grown_none, grown_turn}
 use Rattle.hierarchy.proofs.spread_back.Goals as goal
 

@@ -1,10 +1,6 @@
 -- `spread_once` meets its contract: the edges left, spread over the flags as they are, give the pass. Assumes nothing.
-use mathlib.Core.Path.{sym, ◌∙◌}
-use Prim.Native.Nat.{◌-◌, ◌/◌, ◌<◌, min}
-use native.Mathlib.Omega.{arith}
-use lib.ListN.{length}
-use borrow.Author.Rules.{rules}
-use Rattle.hierarchy.proofs.Spreads.{Spreading, spreading_start, spreading_none, spreading_new, spreading_old, spreading_end}
+use Prim.Native.Nat.{◌-◌}
+use Rattle.hierarchy.proofs.Spreads.{Spreading}
 use Rattle.hierarchy.proofs.spread_once.Given as goal
 
 abbrev pub invariant-loop-e : goal.invariant-loop-e

@@ -1,10 +1,8 @@
 -- `wide_edges_wrong` meets its contract: what is left of the table decides. Assumes nothing.
-use mathlib.Core.Path.{◌≡◌, refl, sym, ◌∙◌}
-use Prim.Native.Nat.{◌-◌}
+use mathlib.Core.Path.{refl, sym, ◌∙◌}
 use native.Mathlib.Omega.{arith}
-use borrow.Author.Rules.{rules}
-use Rattle.hierarchy.specs.Hierarchy.{edges_of, some_edge, edge_wrong}
-use Rattle.hierarchy.proofs.EdgeLoops.{rest, some_stop, some_next, end_some}
+use Rattle.hierarchy.specs.Hierarchy.{edge_wrong}
+use Rattle.hierarchy.proofs.EdgeLoops.{some_stop, some_next, end_some}
 use Rattle.hierarchy.proofs.wide_edges_wrong.Goals as goal
 
 pub loop-e-init : goal.loop-e-init

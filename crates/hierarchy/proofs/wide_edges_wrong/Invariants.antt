@@ -1,10 +1,8 @@
 -- `wide_edges_wrong` meets its contract: what is left of the table decides. Assumes nothing.
-use mathlib.Core.Path.{◌≡◌, refl, sym, ◌∙◌}
+use mathlib.Core.Path.{◌≡◌}
 use Prim.Native.Nat.{◌-◌}
-use native.Mathlib.Omega.{arith}
-use borrow.Author.Rules.{rules}
 use Rattle.hierarchy.specs.Hierarchy.{edges_of, some_edge, edge_wrong}
-use Rattle.hierarchy.proofs.EdgeLoops.{rest, some_stop, some_next, end_some}
+use Rattle.hierarchy.proofs.EdgeLoops.{rest}
 use Rattle.hierarchy.proofs.wide_edges_wrong.Given as goal
 
 abbrev pub invariant-loop-e : goal.invariant-loop-e
