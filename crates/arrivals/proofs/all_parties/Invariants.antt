@@ -1,14 +1,11 @@
 -- `all_parties` meets its contract: each place passed so far has a party from 0 to 31. Assumes nothing.
-use mathlib.Core.Path.{◌≡◌, refl, sym}
+use mathlib.Core.Path.{◌≡◌}
 use mathlib.Core.Bool.{Bool, true}
 use mathlib.Core.List.{List}
 use Prim.Native.Nat.{ℕ, ◌-◌, ◌≤◌}
 use lib.Dec.{ltb}
 use lib.ListN.{get_or}
-use borrow.Author.Rules.{rules}
-use borrow.Author.Tests.{lt-ltb, le-ltb}
 use Rattle.lists.specs.Lists.{all_below}
-use Rattle.lists.proofs.Bounded.{all_next, all_stop, all_end}
 use Rattle.arrivals.proofs.all_parties.Given as goal
 
 abbrev pub test : List ℕ → ℕ → Bool

@@ -1,14 +1,11 @@
 -- `is_listed` meets its contract: no place passed so far has the party. Assumes nothing.
-use mathlib.Core.Path.{◌≡◌, refl, sym}
+use mathlib.Core.Path.{◌≡◌}
 use mathlib.Core.Bool.{Bool, false}
 use mathlib.Core.List.{List}
 use Prim.Native.Nat.{ℕ, ◌-◌, ◌≤◌}
 use lib.Dec.{eqb}
 use lib.ListN.{get_or}
-use borrow.Author.Rules.{rules}
-use borrow.Author.Tests.{eq-eqb, ne_eqb}
 use Rattle.lists.specs.Lists.{any_below}
-use Rattle.lists.proofs.Bounded.{any_next, any_stop, any_end}
 use Rattle.arrivals.proofs.is_listed.Given as goal
 
 abbrev pub test : List ℕ → ℕ → ℕ → Bool

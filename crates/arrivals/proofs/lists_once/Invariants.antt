@@ -1,14 +1,11 @@
 -- `lists_once` meets its contract: the places passed so far have different parties. Assumes nothing.
-use mathlib.Core.Path.{◌≡◌, refl, sym, ◌∙◌}
+use mathlib.Core.Path.{◌≡◌}
 use mathlib.Core.Bool.{Bool, true, not}
 use mathlib.Core.List.{List}
 use Prim.Native.Nat.{ℕ, ◌-◌, ◌≤◌}
 use lib.Dec.{eqb}
 use lib.ListN.{get_or}
-use borrow.Author.Rules.{rules}
-use borrow.Author.Tests.{not-true, not-false}
 use Rattle.lists.specs.Lists.{all_below}
-use Rattle.lists.proofs.Bounded.{all_next, all_stop, all_end}
 use Rattle.arrivals.proofs.lists_once.Given as goal
 
 abbrev pub test : List ℕ → ℕ → Bool

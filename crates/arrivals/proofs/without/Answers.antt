@@ -1,16 +1,15 @@
 -- `without` meets its contract: of the places passed so far the other parties are kept. Assumes nothing.
 use mathlib.Core.Path.{◌≡◌, ap, ◌∙◌}
-use mathlib.Core.Bool.{Bool, not}
-use Prim.Native.Nat.{ℕ, ◌-◌, ◌≤◌}
+use mathlib.Core.Bool.{not}
+use Prim.Native.Nat.{ℕ, ◌≤◌}
 use native.Mathlib.Omega.{arith}
-use lib.Dec.{eqb}
 use lib.ListN.{length, take}
 use borrow.Author.Rules.{rules}
 use borrow.Author.Tests.{eq-eqb, ne_eqb}
 use Rattle.lists.specs.Lists.{keep}
 use Rattle.lists.proofs.Loops.{field_length}
 use Rattle.arrivals.specs.Arrivals.{queue_places}
-use Rattle.arrivals.proofs.Queues.{Kept, kept_start, kept_few, kept_yes, kept_no, cut_take}
+use Rattle.arrivals.proofs.Queues.{kept_start, kept_few, kept_yes, kept_no, cut_take}
 use Rattle.arrivals.proofs.without.Invariants.{is_other}
 use Rattle.arrivals.proofs.without.Goals as goal
 use Rattle.arrivals.proofs.without.Goals.{At-loop-i, Start}

@@ -1,11 +1,8 @@
 -- `number_in` meets its contract: the number behind the digits left, from the one so far, is that of all, as far as it fits. Assumes nothing.
-use mathlib.Core.Path.{◌≡◌, refl}
+use mathlib.Core.Path.{◌≡◌}
 use Prim.Native.Nat.{◌-◌, ◌≤◌, min}
-use native.Mathlib.Omega.{arith}
-use borrow.Author.Rules.{rules}
 use lib.ListN.{length, drop}
 use Rattle.numerals.specs.Numerals.{decimal_from, decimal_number}
-use Rattle.numerals.proofs.Digits.{digit_turn, digits_end}
 use Rattle.numerals.proofs.number_in.Given as goal
 
 abbrev pub invariant-loop-i : goal.invariant-loop-i

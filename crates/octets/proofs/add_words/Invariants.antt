@@ -1,11 +1,8 @@
 -- `add_words` meets its contract: the sums go on without remainders, and the bounds on them fall with the words left. Assumes nothing.
-use Rattle.octets.specs.Bytes.{number2}
 use Prim.Native.Nat.{◌≤◌, ◌+◌, ◌*◌, ◌%◌}
-use mathlib.Core.Path.{◌≡◌, refl, ◌∙◌}
-use native.Mathlib.Omega.{arith}
+use mathlib.Core.Path.{◌≡◌}
 use lib.ListN.{drop}
 use Rattle.octets.specs.Fletcher.{words, sums}
-use Rattle.octets.proofs.Words.{turn_late, sums_small, ended_at}
 use Rattle.octets.proofs.add_words.Given as goal
 
 abbrev pub invariant-loop-left : goal.invariant-loop-left

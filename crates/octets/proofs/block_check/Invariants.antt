@@ -1,10 +1,8 @@
 -- `block_check` meets its contract: the sums over the words left, from those reached, are the check of the string. Assumes nothing.
 use Prim.Native.Nat.{◌≤◌, ◌<◌, ◌*◌, ◌-◌, ◌/◌}
-use mathlib.Core.Path.{◌≡◌, refl, ◌∙◌}
-use native.Mathlib.Omega.{arith}
+use mathlib.Core.Path.{◌≡◌}
 use lib.ListN.{length, drop}
 use Rattle.octets.specs.Fletcher.{words, sums, fletcher}
-use Rattle.octets.proofs.Words.{ended_at, taken_in}
 use Rattle.octets.proofs.block_check.Given as goal
 
 abbrev pub invariant-loop-i : goal.invariant-loop-i

@@ -1,7 +1,6 @@
 -- `byte` meets its contract: past the end stands zero. Assumes nothing.
 use mathlib.Core.Path.{sym}
 use lib.ListN.{get_or-eq_default}
-use borrow.Author.Rules.{rules}
 use Rattle.octets.proofs.byte.Goals as goal
 
 pub returns : goal.returns

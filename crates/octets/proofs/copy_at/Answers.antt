@@ -1,10 +1,8 @@
 -- `copy_at` meets its contract: the bytes left, written over the room as it is now, give the room with all of them. Assumes nothing.
-use Prim.Native.Nat.{◌≤◌, ◌+◌, ◌-◌}
-use mathlib.Core.Path.{◌≡◌, refl, sym, ◌∙◌}
+use mathlib.Core.Path.{refl, sym, ◌∙◌}
 use native.Mathlib.Omega.{arith}
-use lib.ListN.{length, drop, length-set}
+use lib.ListN.{length-set}
 use borrow.Author.Tests.{leb-true, not-true, not-false}
-use Rattle.octets.specs.Writes.{over_at}
 use Rattle.octets.proofs.Writes.{over_start, over_turn, over_end, put_fits, put_not}
 use Rattle.octets.proofs.copy_at.Goals as goal
 

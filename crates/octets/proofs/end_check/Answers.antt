@@ -1,7 +1,6 @@
 -- `end_check` meets its contract: an odd last byte is a word with a zero. Assumes nothing.
 use mathlib.Core.Path.{◌∙◌}
 use Rattle.octets.proofs.Words.{ended, last_byte}
-use borrow.Author.Rules.{rules}
 use Rattle.octets.proofs.end_check.Goals as goal
 
 pub returns-then-at-bytes : goal.returns-then-at-bytes

@@ -2,7 +2,6 @@
 use Rattle.octets.proofs.Numbers.{none2}
 use mathlib.Core.Path.{sym}
 use native.Mathlib.Omega.{arith}
-use borrow.Author.Rules.{rules}
 use Rattle.octets.proofs.number2.Goals as goal
 
 pub returns-then-s-at : goal.returns-then-s-at

@@ -1,7 +1,6 @@
 -- `number4` meets its contract: past the end it is zero. Assumes nothing.
 use Rattle.octets.proofs.Numbers.{none4}
 use mathlib.Core.Path.{sym}
-use borrow.Author.Rules.{rules}
 use Rattle.octets.proofs.number4.Goals as goal
 
 pub returns-then-s-at : goal.returns-then-s-at

@@ -1,12 +1,8 @@
 -- `put_zeros` meets its contract: the zeros left, written over the room as it is now, give the room with all of them. Assumes nothing.
-use Prim.Native.Nat.{ℕ, ◌≤◌, ◌+◌, ◌-◌}
-use mathlib.Core.Path.{◌≡◌, refl, sym, ap, ◌∙◌}
-use mathlib.Core.List.{List}
-use native.Mathlib.Omega.{arith}
-use lib.ListN.{length, drop, set, replicate, length-set, length-replicate, get_or-replicate}
-use borrow.Author.Tests.{leb-true, not-true, not-false}
+use Prim.Native.Nat.{◌≤◌, ◌+◌, ◌-◌}
+use mathlib.Core.Path.{◌≡◌}
+use lib.ListN.{length, drop, replicate}
 use Rattle.octets.specs.Writes.{over_at}
-use Rattle.octets.proofs.Writes.{over_start, over_turn, over_end, put_fits, put_not}
 use Rattle.octets.proofs.put_zeros.Given as goal
 
 abbrev pub invariant-loop-i : goal.invariant-loop-i

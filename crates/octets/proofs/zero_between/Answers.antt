@@ -1,14 +1,11 @@
 -- `zero_between` meets its contract: what is left to test decides. Assumes nothing.
-use Prim.Native.Nat.{◌-◌}
-use mathlib.Core.Path.{◌≡◌, refl, sym}
+use mathlib.Core.Path.{refl, sym}
 use native.Mathlib.Omega.{arith}
-use lib.ListN.{length, take, drop, length-take}
+use lib.ListN.{take, length-take}
 use lib.Seq.{get_or-take}
 use borrow.Author.Tests.{eq-eqb, ne_eqb}
 use lib.Dec.{eqb}
-use Rattle.lists.specs.Lists.{every}
 use Rattle.lists.proofs.Loops.{every_stop, every_next, every_end}
-use Rattle.octets.specs.Bytes.{zero_between}
 use Rattle.octets.proofs.zero_between.Goals as goal
 
 pub loop-i-init : goal.loop-i-init

@@ -1,13 +1,9 @@
 -- `zero_between` meets its contract: what is left to test decides. Assumes nothing.
 use Prim.Native.Nat.{◌-◌}
-use mathlib.Core.Path.{◌≡◌, refl, sym}
-use native.Mathlib.Omega.{arith}
-use lib.ListN.{length, take, drop, length-take}
-use lib.Seq.{get_or-take}
-use borrow.Author.Tests.{eq-eqb, ne_eqb}
+use mathlib.Core.Path.{◌≡◌}
+use lib.ListN.{length, take, drop}
 use lib.Dec.{eqb}
 use Rattle.lists.specs.Lists.{every}
-use Rattle.lists.proofs.Loops.{every_stop, every_next, every_end}
 use Rattle.octets.specs.Bytes.{zero_between}
 use Rattle.octets.proofs.zero_between.Given as goal
 

@@ -3,7 +3,6 @@ use mathlib.Core.List.{List}
 use mathlib.Core.Path.{ap, ◌∙◌}
 use Prim.Native.Nat.{ℕ}
 use lib.Seq.{take-length}
-use borrow.Author.Rules.{rules}
 use Rattle.octets.specs.Bytes.{zero_from}
 use Rattle.octets.proofs.zero_from.Goals as goal
 
