@@ -415,15 +415,7 @@ fn lock_numbered(m: u32, low: u32, high: u32) -> Lock
 const NO_HOLD: u32 = 10;
 
 // Whether two holds conflict, for the C host: 0 no, 1 yes, 10 for what is no hold.
-#[unsafe(no_mangle)]
-pub extern "C" fn hold_conflict(
-    mode: u32,
-    low: u32,
-    high: u32,
-    mode2: u32,
-    low2: u32,
-    high2: u32,
-) -> u32
+pub fn hold_conflict(mode: u32, low: u32, high: u32, mode2: u32, low2: u32, high2: u32) -> u32
     ensures { result ≡ conflict_call mode low high mode2 low2 high2 }
 {
     if !is_hold(mode, low, high) {

@@ -193,8 +193,7 @@ fn end_check(bytes: &[u8], a: u64, b: u64) -> u32
 }
 
 // Fletcher-32 of a string of bytes.
-#[unsafe(no_mangle)]
-pub extern "C" fn block_check(bytes: &[u8]) -> u32
+pub fn block_check(bytes: &[u8]) -> u32
     ensures { result ≡ fletcher bytes.now }
 {
     let total = bytes.len() / 2;
