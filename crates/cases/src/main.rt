@@ -5,6 +5,7 @@
 ghost use Rattle.std.specs.Prelude.{◌≤◌};
 
 use intervals::BuildAnswer;
+use std::io::Write;
 
 // LINES. Whether a byte is a digit.
 fn is_digit(b: u8) -> bool {
@@ -22,7 +23,7 @@ fn with_digit(value: usize, b: u8) -> usize {
     if 1844674407370955161 < value {
         return 0;
     }
-    std::num::wrapping_add_usize(value * 10, (b - 48) as usize)
+    (value * 10).wrapping_add((b - 48) as usize)
 }
 
 // The number with so many before it in a line; 0 behind the last.
@@ -56,21 +57,21 @@ fn size(line: &[u8], k: usize, most: usize) -> usize
 }
 
 // Says a word, then a number.
-fn say(word: &[u8], k: usize) {
-    io::write_all(1, word);
-    io::print_decimal(1, k as u64);
+fn say<W: Write>(out: &mut W, word: &[u8], k: usize) {
+    streams::write_all(out, word);
+    streams::print_decimal(out, k as u64);
 }
 
 // Says what a buffer holds: so many of a byte, then so many of the next.
-fn say_bytes(bytes: &[u8]) {
+fn say_bytes<W: Write>(out: &mut W, bytes: &[u8]) {
     let mut start = 0;
     let mut i = 0;
     while i < bytes.len() {
         let b = octets::byte(bytes, i);
         i += 1;
         if (i == bytes.len()) | (octets::byte(bytes, i) != b) {
-            say(b", ", i - start);
-            say(b" of ", b as usize);
+            say(out, b", ", i - start);
+            say(out, b" of ", b as usize);
             start = i;
         }
     }
@@ -80,7 +81,7 @@ fn say_bytes(bytes: &[u8]) {
 // of the next d, on a ring of 255 nodes that leaves the root out.
 fn entry(line: &[u8], first: usize, d: usize, i: usize) -> u16 {
     if d == 0 {
-        return (number(line, std::num::wrapping_add_usize(first, i)) % 65536) as u16;
+        return (number(line, first.wrapping_add(i)) % 65536) as u16;
     }
     let parent = i / 2 / d % 256;
     if i % 2 == 0 {
@@ -107,139 +108,157 @@ fn front(table: &[u16], k: usize) -> &[u16] {
 }
 
 // Says the intervals of the line's nodes, from one up to another.
-fn say_intervals(line: &[u8], places: &[u16]) {
+fn say_intervals<W: Write>(out: &mut W, line: &[u8], places: &[u16]) {
     let end = number(line, 6);
     let mut node = number(line, 5);
     while node < end {
         let i = covers::interval_at(places, node);
-        say(b", ", i.low as usize);
-        say(b" ", i.high as usize);
+        say(out, b", ", i.low as usize);
+        say(out, b" ", i.high as usize);
         node += 1;
     }
 }
 
 // Says what building answers.
-fn say_built(answer: BuildAnswer) {
+fn say_built<W: Write>(out: &mut W, answer: BuildAnswer) {
     match answer {
         BuildAnswer::Built => {
-            io::write_all(1, b": built");
+            streams::write_all(out, b": built");
         }
-        BuildAnswer::Refused(k) => say(b": refused ", k as usize),
+        BuildAnswer::Refused(k) => say(out, b": refused ", k as usize),
     }
 }
 
 // Builds with so many nodes, places, edges and bytes of scratch; says what that leaves in places and scratch.
-fn build(line: &[u8], edges: &[u16], places: &mut [u16], scratch: &mut [u8]) {
+fn build<W: Write>(
+    out: &mut W,
+    line: &[u8],
+    edges: &[u16],
+    places: &mut [u16],
+    scratch: &mut [u8],
+) {
     let n = number(line, 0);
     let edge_count = number(line, 3);
     let held = size(line, 1, places.len());
     let room = size(line, 4, scratch.len());
-    say_built(intervals::build(
-        n,
-        edges,
-        edge_count,
-        &mut places[0..held],
-        &mut scratch[0..room],
-    ));
-    say_intervals(line, places);
-    say_bytes(scratch);
+    say_built(
+        out,
+        intervals::build(
+            n,
+            edges,
+            edge_count,
+            &mut places[0..held],
+            &mut scratch[0..room],
+        ),
+    );
+    say_intervals(out, line, places);
+    say_bytes(out, scratch);
 }
 
 // Builds over so many numbers of the line's edges, or of edges to the next nodes, with places of 7 and scratch of 9.
-fn build_line(line: &[u8]) {
+fn build_line<W: Write>(out: &mut W, line: &[u8]) {
     let mut edges = [0u16; 2050];
     fill(line, 8, number(line, 7), &mut edges);
     let ends = front(&edges, number(line, 2));
     let mut places = [7u16; 516];
     let mut scratch = [9u8; 2050];
-    build(line, ends, &mut places, &mut scratch);
+    build(out, line, ends, &mut places, &mut scratch);
 }
 
 // Says what stands at a place of the words.
-fn say_word(words: &[u64], i: usize) {
+fn say_word<W: Write>(out: &mut W, words: &[u64], i: usize) {
     if i < words.len() {
-        say(b", ", words[i] as usize);
+        say(out, b", ", words[i] as usize);
     }
 }
 
 // Builds in the plain way with so many nodes, places, edges and words; says what that leaves in places, in the first word and the last that may be used,
 // and in the one behind it.
-fn build_plain(line: &[u8], edges: &[u16], places: &mut [u16], words: &mut [u64]) {
+fn build_plain<W: Write>(
+    out: &mut W,
+    line: &[u8],
+    edges: &[u16],
+    places: &mut [u16],
+    words: &mut [u64],
+) {
     let n = number(line, 0);
     let edge_count = number(line, 3);
     let held = size(line, 1, places.len());
     let room = size(line, 4, words.len());
-    say_built(reach_sets::build(
-        n,
-        edges,
-        edge_count,
-        &mut places[0..held],
-        &mut words[0..room],
-    ));
-    say_intervals(line, places);
-    say_word(words, 0);
-    say_word(words, 1023);
-    say_word(words, 1024);
+    say_built(
+        out,
+        reach_sets::build(
+            n,
+            edges,
+            edge_count,
+            &mut places[0..held],
+            &mut words[0..room],
+        ),
+    );
+    say_intervals(out, line, places);
+    say_word(out, words, 0);
+    say_word(out, words, 1023);
+    say_word(out, words, 1024);
 }
 
 // The same over the line's edges, with places of 7 and words of 9.
-fn plain_line(line: &[u8]) {
+fn plain_line<W: Write>(out: &mut W, line: &[u8]) {
     let mut edges = [0u16; 2050];
     fill(line, 8, number(line, 7), &mut edges);
     let ends = front(&edges, number(line, 2));
     let mut places = [7u16; 516];
     let mut words = [9u64; 1026];
-    build_plain(line, ends, &mut places, &mut words);
+    build_plain(out, line, ends, &mut places, &mut words);
 }
 
 // Says the cover by n, so many places of the line's table, and so many of its two names.
-fn cover_line(line: &[u8]) {
+fn cover_line<W: Write>(out: &mut W, line: &[u8]) {
     let mut names = [0u16; 2];
     let mut table = [0u16; 20];
     fill(line, 3, 0, &mut names);
     fill(line, 5, 0, &mut table);
     let named = front(&names, number(line, 2));
     let held = front(&table, number(line, 1));
-    say(b": ", covers::cover(number(line, 0), held, named));
+    say(out, b": ", covers::cover(number(line, 0), held, named));
 }
 
 // Says whether a node is in the reach of 3 or of 6, of ten nodes with the line's eleven edges, and what that leaves in flags of 9.
-fn reach_line(line: &[u8]) {
+fn reach_line<W: Write>(out: &mut W, line: &[u8]) {
     let mut edges = [0u16; 22];
     let mut flags = [9u8; 10];
     fill(line, 3, 0, &mut edges);
     let found = hierarchy::in_reach(&edges, 11, &[3, 6], number(line, 2), &mut flags);
-    say(b": ", found as usize);
-    say_bytes(&flags);
+    say(out, b": ", found as usize);
+    say_bytes(out, &flags);
 }
 
 // ALL LINES. What a line asks for.
-fn answer(line: &[u8]) {
+fn answer<W: Write>(out: &mut W, line: &[u8]) {
     match octets::byte(line, 0) {
-        b'b' => build_line(line),
-        b'c' => cover_line(line),
-        b'i' => reach_line(line),
-        b'p' => plain_line(line),
+        b'b' => build_line(out, line),
+        b'c' => cover_line(out, line),
+        b'i' => reach_line(out, line),
+        b'p' => plain_line(out, line),
         _ => {}
     }
 }
 
 // Each line is written out, then what it asks for is done.
-fn run(text: &[u8]) {
+fn run<W: Write>(out: &mut W, text: &[u8]) {
     let mut at = 0;
     while at < text.len() {
-        let end = bytes::scan::find(text, at, text.len(), 10);
+        let end = streams::line_end(text, at);
         let line = &text[at..end];
         at = end + 1;
-        io::write_all(1, line);
-        answer(line);
-        io::write_all(1, b"\n");
+        streams::write_all(out, line);
+        answer(out, line);
+        streams::write_all(out, b"\n");
     }
 }
 
 // Reads the lines, and runs them.
-fn main() {
-    let mut text = io::large_buffer();
-    let n = io::read_full(0, &mut text);
-    run(&text[0..n]);
+fn main(rt: HostRuntime) {
+    let mut text = [0u8; 65536];
+    let n = streams::read_full(&mut rt.stdin(), &mut text);
+    run(&mut rt.stdout(), &text[0..n]);
 }

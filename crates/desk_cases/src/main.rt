@@ -8,9 +8,10 @@ ghost use Rattle.std.specs.Prelude.{length, ◌≡◌};
 
 use arrivals::PARTIES;
 use desk::{Desk, EnterAnswer, LeaveAnswer};
+use std::io::Write;
 
 // The numbers of a line that both steps take; how many names or bytes are lent, and of enter the name count and the mode.
-#[derive(Drop)]
+#[derive(Clone, Copy)]
 struct Call {
     n: usize,
     places: usize,
@@ -59,43 +60,50 @@ fn table(line: &[u8], part: usize, count: usize) -> [u16; 2050]
 }
 
 // ANSWERS are said, by the place of their word in `say`. What enter answered; with waiting goes how many wait.
-fn entered(answer: EnterAnswer, waiting: usize) {
+fn entered<W: Write>(out: &mut W, answer: EnterAnswer, waiting: usize) {
     match answer {
-        EnterAnswer::Waits => say(0, waiting as u64),
-        EnterAnswer::Refused(k) => say(1, k as u64),
-        EnterAnswer::Granted(cover) => say(2, cover as u64),
+        EnterAnswer::Waits => say(out, 0, waiting as u64),
+        EnterAnswer::Refused(k) => say(out, 1, k as u64),
+        EnterAnswer::Granted(cover) => say(out, 2, cover as u64),
     }
 }
 
 // What leave answered: the count of the granted.
-fn left(answer: LeaveAnswer) {
+fn left<W: Write>(out: &mut W, answer: LeaveAnswer) {
     match answer {
-        LeaveAnswer::Refused(k) => say(1, k as u64),
-        LeaveAnswer::Left(count) => say(3, count as u64),
+        LeaveAnswer::Refused(k) => say(out, 1, k as u64),
+        LeaveAnswer::Left(count) => say(out, 3, count as u64),
     }
 }
 
 // Says an answer: its word, then its number.
-fn say(word: usize, number: u64) {
+fn say<W: Write>(out: &mut W, word: usize, number: u64) {
     let words = *b":   waits : refused : granted :    left ";
     let at = word % 4 * 10;
     let end = at + 10;
-    io::write_all(1, &words[at..end]);
-    io::print_decimal(1, number);
+    streams::write_all(out, &words[at..end]);
+    streams::print_decimal(out, number);
 }
 
 // Says what a list holds.
-fn say_list(list: &[u8; 34]) {
+fn say_list<W: Write>(out: &mut W, list: &[u8; 34]) {
     let mut i = 0;
     while i < 34 {
-        io::write_all(1, b" ");
-        io::print_decimal(1, octets::byte(list, i) as u64);
+        streams::write_all(out, b" ");
+        streams::print_decimal(out, octets::byte(list, i) as u64);
         i += 1;
     }
 }
 
 // STEPS. Enters, with so many names lent, a name count and a mode: 1 reading, 3 adding, any other writing.
-fn enter(line: &[u8], c: Call, desk: Desk, intervals: &[u16], edges: &[u16]) -> Desk {
+fn enter<W: Write>(
+    out: &mut W,
+    line: &[u8],
+    c: Call,
+    desk: Desk,
+    intervals: &[u16],
+    edges: &[u16],
+) -> Desk {
     let lent = c.lent % 11;
     let names = table(line, 2, lent);
     let mode = locks::mode_when(c.mode == 1, c.mode != 3);
@@ -111,12 +119,12 @@ fn enter(line: &[u8], c: Call, desk: Desk, intervals: &[u16], edges: &[u16]) -> 
     );
     let answer = step.answer;
     let next = step.desk;
-    entered(answer, next.waiting);
+    entered(out, answer, next.waiting);
     next
 }
 
 // Leaves, with so many bytes lent of a list that holds 9 everywhere; says the list, then the count of the granted.
-fn leave(c: Call, desk: Desk, intervals: &[u16], edges: &[u16]) -> Desk {
+fn leave<W: Write>(out: &mut W, c: Call, desk: Desk, intervals: &[u16], edges: &[u16]) -> Desk {
     let mut list = [9u8; 34];
     let lent = c.lent % 35;
     let step = desk.leave(
@@ -128,8 +136,8 @@ fn leave(c: Call, desk: Desk, intervals: &[u16], edges: &[u16]) -> Desk {
         &mut list[0..lent],
     );
     let answer = step.answer;
-    say_list(&list);
-    left(answer);
+    say_list(out, &list);
+    left(out, answer);
     step.desk
 }
 
@@ -155,53 +163,60 @@ fn counts(c: Call, desk: Desk) -> Desk {
 }
 
 // Says the lines that a listing has after its steps, behind the end of this one: holders, waiters and grants, and each party's grants. They are shorter than 800 bytes.
-fn show(desk: Desk) -> Desk {
+fn show<W: Write>(out: &mut W, desk: Desk) -> Desk {
     let mut text = [b'\n'; 800];
     let end = texts::put_end(desk, 1, &mut text) % 801;
-    io::write_all(1, &text[0..end]);
+    streams::write_all(out, &text[0..end]);
     desk
 }
 
 // ALL LINES. The desk as a line leaves it, with so much of the tables lent.
-fn perform(line: &[u8], c: Call, desk: Desk, intervals: &[u16], edges: &[u16]) -> Desk {
+fn perform<W: Write>(
+    out: &mut W,
+    line: &[u8],
+    c: Call,
+    desk: Desk,
+    intervals: &[u16],
+    edges: &[u16],
+) -> Desk {
     match octets::byte(line, 0) {
-        b'e' => enter(line, c, desk, intervals, edges),
-        b'l' => leave(c, desk, intervals, edges),
+        b'e' => enter(out, line, c, desk, intervals, edges),
+        b'l' => leave(out, c, desk, intervals, edges),
         b'd' => by_hand(c, desk),
         b'c' => counts(c, desk),
-        b's' => show(desk),
+        b's' => show(out, desk),
         b'f' => Desk::fresh(),
         _ => desk,
     }
 }
 
 // The same, with the tables made.
-fn answer(line: &[u8], desk: Desk) -> Desk {
+fn answer<W: Write>(out: &mut W, line: &[u8], desk: Desk) -> Desk {
     let c = taken(line);
     let places = c.places % 2051;
     let intervals = table(line, 0, places);
     let ends = c.ends % 2051;
     let edges = table(line, 1, ends);
-    perform(line, c, desk, &intervals[0..places], &edges[0..ends])
+    perform(out, line, c, desk, &intervals[0..places], &edges[0..ends])
 }
 
 // Each line is written out, then what it asks for is done.
-fn run(text: &[u8]) {
+fn run<W: Write>(out: &mut W, text: &[u8]) {
     let mut desk = Desk::fresh();
     let mut at = 0;
     while at < text.len() {
-        let end = bytes::scan::find(text, at, text.len(), 10);
+        let end = streams::line_end(text, at);
         let line = &text[at..end];
         at = end + 1;
-        io::write_all(1, line);
-        desk = answer(line, desk);
-        io::write_all(1, b"\n");
+        streams::write_all(out, line);
+        desk = answer(out, line, desk);
+        streams::write_all(out, b"\n");
     }
 }
 
 // Reads the lines, and runs them.
-fn main() {
-    let mut text = io::large_buffer();
-    let n = io::read_full(0, &mut text);
-    run(&text[0..n]);
+fn main(rt: HostRuntime) {
+    let mut text = [0u8; 65536];
+    let n = streams::read_full(&mut rt.stdin(), &mut text);
+    run(&mut rt.stdout(), &text[0..n]);
 }

@@ -5,6 +5,7 @@
 ghost use Rattle.std.specs.Prelude.{◌≡◌, ◌≤◌, length};
 
 use blocks::{ReadAnswer, WriteAnswer};
+use std::io::Write;
 
 // LINES. Whether a byte is a digit.
 fn is_digit(b: u8) -> bool {
@@ -22,7 +23,7 @@ fn with_digit(value: usize, b: u8) -> usize {
     if 1844674407370955161 < value {
         return 0;
     }
-    std::num::wrapping_add_usize(value * 10, (b - 48) as usize)
+    (value * 10).wrapping_add((b - 48) as usize)
 }
 
 // The number with so many before it in a line; 0 behind the last.
@@ -56,9 +57,9 @@ fn size(line: &[u8], k: usize, most: usize) -> usize
 }
 
 // Says a word, then a number.
-fn say(word: &[u8], k: usize) {
-    io::write_all(1, word);
-    io::print_decimal(1, k as u64);
+fn say<W: Write>(out: &mut W, word: &[u8], k: usize) {
+    streams::write_all(out, word);
+    streams::print_decimal(out, k as u64);
 }
 
 // FILES. 129 blocks of a byte.
@@ -88,70 +89,70 @@ fn head(bytes: &[u8], k: usize) -> &[u8] {
 }
 
 // Says the check of some bytes.
-fn say_check(bytes: &[u8]) {
-    io::write_all(1, b", check ");
-    io::print_hex(1, octets::block_check(bytes) as u64, 8);
+fn say_check<W: Write>(out: &mut W, bytes: &[u8]) {
+    streams::write_all(out, b", check ");
+    streams::print_hex(out, octets::block_check(bytes));
 }
 
 // Writes so many records out of so many bytes into so many of a file.
-fn write(line: &[u8], records: &[u8], file: &mut [u8]) {
+fn write<W: Write>(out: &mut W, line: &[u8], records: &[u8], file: &mut [u8]) {
     let count = number(line, 0);
     let held = head(records, number(line, 1));
     let room = size(line, 2, file.len());
     let answer = blocks::write(held, count, &mut file[0..room]);
     match answer {
-        WriteAnswer::Blocks(k) => say(b": blocks ", k),
-        WriteAnswer::Refused(k) => say(b": refused ", k as usize),
+        WriteAnswer::Blocks(k) => say(out, b": blocks ", k),
+        WriteAnswer::Refused(k) => say(out, b": refused ", k as usize),
     }
 }
 
 // Reads so many bytes of the file into so many of the records.
-fn read(line: &[u8], file: &[u8], records: &mut [u8]) {
+fn read<W: Write>(out: &mut W, line: &[u8], file: &[u8], records: &mut [u8]) {
     let held = head(file, number(line, 4));
     let room = size(line, 5, records.len());
     let answer = blocks::read(held, &mut records[0..room]);
     match answer {
-        ReadAnswer::Records(k) => say(b"; records ", k),
-        ReadAnswer::Refused(k) => say(b"; refused ", k as usize),
+        ReadAnswer::Records(k) => say(out, b"; records ", k),
+        ReadAnswer::Refused(k) => say(out, b"; refused ", k as usize),
     }
 }
 
 // Writes records into zeros, puts zeros over so many bytes of the records, and reads them back.
-fn file_line(line: &[u8], records: &mut [u8]) {
+fn file_line<W: Write>(out: &mut W, line: &[u8], records: &mut [u8]) {
     let mut file = large(0);
-    write(line, records, &mut file);
-    say_check(&file);
+    write(out, line, records, &mut file);
+    say_check(out, &file);
     octets::put_zeros(number(line, 3), 0, records);
-    read(line, &file, records);
-    say_check(records);
+    read(out, line, &file, records);
+    say_check(out, records);
 }
 
 // ALL LINES. What a line asks for.
-fn answer(line: &[u8], records: &mut [u8]) {
+fn answer<W: Write>(out: &mut W, line: &[u8], records: &mut [u8]) {
     match octets::byte(line, 0) {
         b'R' => store(line, records),
-        b'w' => file_line(line, records),
+        b'w' => file_line(out, line, records),
         _ => {}
     }
 }
 
 // Each line is written out, then what it asks for is done.
-fn run(text: &[u8]) {
+fn run<W: Write>(out: &mut W, text: &[u8]) {
     let mut records = large(9);
     let mut at = 0;
     while at < text.len() {
-        let end = bytes::scan::find(text, at, text.len(), 10);
+        let end = streams::line_end(text, at);
         let line = &text[at..end];
         at = end + 1;
-        io::write_all(1, line);
-        answer(line, &mut records);
-        io::write_all(1, b"\n");
+        streams::write_all(out, line);
+        answer(out, line, &mut records);
+        streams::write_all(out, b"\n");
     }
 }
 
 // Reads the lines, and runs them.
-fn main() {
-    let mut text = io::large_buffer();
-    let n = io::read_full(0, &mut text);
-    run(&text[0..n]);
+fn main(rt: HostRuntime) {
+    let mut text = [0u8; 65536];
+    let n = streams::read_full(&mut rt.stdin(), &mut text);
+    run(&mut rt.stdout(), &text[0..n]);
 }

@@ -8,9 +8,10 @@ ghost use Rattle.std.specs.Prelude.{◌≡◌, ◌≤◌, length};
 
 use arrivals::PARTIES;
 use desk::{AddAnswer, Desk, GetAnswer, PutAnswer};
+use std::io::Write;
 
 // The numbers of a line that every step takes, and those that a step has besides: `given` is what put or add is given, `scratch` how many bytes of a scratch are lent.
-#[derive(Drop)]
+#[derive(Clone, Copy)]
 struct Call {
     n: usize,
     places: usize,
@@ -35,7 +36,7 @@ fn number(line: &[u8], k: usize) -> usize {
 // What a line gives to its call. With a 1 behind it, the number for put or add is so many below the largest, which is the number with all its bits turned.
 fn taken(line: &[u8]) -> Call {
     let second = number(line, 7);
-    let turned = std::num::wrapping_sub_u64(0, number(line, 8) as u64);
+    let turned = 0u64.wrapping_sub(number(line, 8) as u64);
     Call {
         n: number(line, 0),
         places: number(line, 1),
@@ -65,37 +66,37 @@ fn table(line: &[u8], part: usize, count: usize) -> [u16; 2050]
 }
 
 // ANSWERS are said, by the place of their word in `say`. What get answered; 14 is the number of waiting.
-fn got(answer: GetAnswer) {
+fn got<W: Write>(out: &mut W, answer: GetAnswer) {
     match answer {
-        GetAnswer::Refused(k) => say(0, k as u64),
-        GetAnswer::Waiting => say(1, 14),
-        GetAnswer::Value(v) => say(2, v),
+        GetAnswer::Refused(k) => say(out, 0, k as u64),
+        GetAnswer::Waiting => say(out, 1, 14),
+        GetAnswer::Value(v) => say(out, 2, v),
     }
 }
 
 // What put answered; with stored goes the number that was given.
-fn stored(answer: PutAnswer, given: u64) {
+fn stored<W: Write>(out: &mut W, answer: PutAnswer, given: u64) {
     match answer {
-        PutAnswer::Stored => say(3, given),
-        PutAnswer::Refused(k) => say(0, k as u64),
+        PutAnswer::Stored => say(out, 3, given),
+        PutAnswer::Refused(k) => say(out, 0, k as u64),
     }
 }
 
 // What add answered; with added goes the number that was given.
-fn added(answer: AddAnswer, given: u64) {
+fn added<W: Write>(out: &mut W, answer: AddAnswer, given: u64) {
     match answer {
-        AddAnswer::Added => say(4, given),
-        AddAnswer::Refused(k) => say(0, k as u64),
+        AddAnswer::Added => say(out, 4, given),
+        AddAnswer::Refused(k) => say(out, 0, k as u64),
     }
 }
 
 // Says an answer: its word, then its number.
-fn say(word: usize, number: u64) {
+fn say<W: Write>(out: &mut W, word: usize, number: u64) {
     let words = *b": refused : waiting :   value :  stored :   added : scratch ";
     let at = word % 6 * 10;
     let end = at + 10;
-    io::write_all(1, &words[at..end]);
-    io::print_decimal(1, number);
+    streams::write_all(out, &words[at..end]);
+    streams::print_decimal(out, number);
 }
 
 // How many a line lends of those that there are, as many as usual where it does not say.
@@ -109,7 +110,7 @@ fn part(asked: usize, usual: usize, all: usize) -> usize
 }
 
 // Says how many of the bytes that were lent of a scratch are not 0.
-fn say_scratch(scratch: &[u8; 300], lent: usize) {
+fn say_scratch<W: Write>(out: &mut W, scratch: &[u8; 300], lent: usize) {
     let mut count = 0;
     let mut i = 0;
     while i < lent {
@@ -118,7 +119,7 @@ fn say_scratch(scratch: &[u8; 300], lent: usize) {
         }
         i += 1;
     }
-    say(5, count);
+    say(out, 5, count);
 }
 
 // STEPS. Enters, with so many names lent, a name count and a mode: 1 reading, 3 adding, any other writing.
@@ -147,7 +148,14 @@ fn leave(c: Call, desk: Desk, intervals: &[u16], edges: &[u16]) -> Desk {
 }
 
 // Gets the value of a node. As for put and add, so many bytes are lent of a scratch that holds 7 everywhere, and what is left in them is said behind the answer.
-fn get(c: Call, desk: Desk, intervals: &[u16], edges: &[u16], values: &[u64]) -> Desk {
+fn get<W: Write>(
+    out: &mut W,
+    c: Call,
+    desk: Desk,
+    intervals: &[u16],
+    edges: &[u16],
+    values: &[u64],
+) -> Desk {
     let mut scratch = [7u8; 300];
     let lent = c.scratch % 301;
     let step = desk.get(
@@ -161,13 +169,20 @@ fn get(c: Call, desk: Desk, intervals: &[u16], edges: &[u16], values: &[u64]) ->
         &mut scratch[0..lent],
     );
     let answer = step.answer;
-    got(answer);
-    say_scratch(&scratch, lent);
+    got(out, answer);
+    say_scratch(out, &scratch, lent);
     step.desk
 }
 
 // Puts a number at a node.
-fn put(c: Call, desk: Desk, intervals: &[u16], edges: &[u16], values: &mut [u64]) -> Desk {
+fn put<W: Write>(
+    out: &mut W,
+    c: Call,
+    desk: Desk,
+    intervals: &[u16],
+    edges: &[u16],
+    values: &mut [u64],
+) -> Desk {
     let mut scratch = [7u8; 300];
     let lent = c.scratch % 301;
     let step = desk.put(
@@ -182,13 +197,20 @@ fn put(c: Call, desk: Desk, intervals: &[u16], edges: &[u16], values: &mut [u64]
         &mut scratch[0..lent],
     );
     let answer = step.answer;
-    stored(answer, c.given);
-    say_scratch(&scratch, lent);
+    stored(out, answer, c.given);
+    say_scratch(out, &scratch, lent);
     step.desk
 }
 
 // Adds a number at a node.
-fn add(c: Call, desk: Desk, intervals: &[u16], edges: &[u16], values: &mut [u64]) -> Desk {
+fn add<W: Write>(
+    out: &mut W,
+    c: Call,
+    desk: Desk,
+    intervals: &[u16],
+    edges: &[u16],
+    values: &mut [u64],
+) -> Desk {
     let mut scratch = [7u8; 300];
     let lent = c.scratch % 301;
     let step = desk.add(
@@ -203,8 +225,8 @@ fn add(c: Call, desk: Desk, intervals: &[u16], edges: &[u16], values: &mut [u64]
         &mut scratch[0..lent],
     );
     let answer = step.answer;
-    added(answer, c.given);
-    say_scratch(&scratch, lent);
+    added(out, answer, c.given);
+    say_scratch(out, &scratch, lent);
     step.desk
 }
 
@@ -217,17 +239,18 @@ fn by_hand(c: Call, desk: Desk) -> Desk {
 }
 
 // Says the values that are lent.
-fn say_values(values: &[u64]) {
+fn say_values<W: Write>(out: &mut W, values: &[u64]) {
     let mut i = 0;
     while i < values.len() {
-        io::write_all(1, b" ");
-        io::print_decimal(1, values[i]);
+        streams::write_all(out, b" ");
+        streams::print_decimal(out, values[i]);
         i += 1;
     }
 }
 
 // ALL LINES. The desk as a line leaves it, with so much of the tables lent.
-fn perform(
+fn perform<W: Write>(
+    out: &mut W,
     line: &[u8],
     c: Call,
     desk: Desk,
@@ -237,13 +260,13 @@ fn perform(
 ) -> Desk {
     match octets::byte(line, 0) {
         b'e' => enter(line, c, desk, intervals, edges),
-        b'g' => get(c, desk, intervals, edges, values),
-        b'p' => put(c, desk, intervals, edges, values),
-        b'a' => add(c, desk, intervals, edges, values),
+        b'g' => get(out, c, desk, intervals, edges, values),
+        b'p' => put(out, c, desk, intervals, edges, values),
+        b'a' => add(out, c, desk, intervals, edges, values),
         b'l' => leave(c, desk, intervals, edges),
         b'd' => by_hand(c, desk),
         b'v' => {
-            say_values(values);
+            say_values(out, values);
             desk
         }
         b'f' => Desk::fresh(),
@@ -252,7 +275,7 @@ fn perform(
 }
 
 // The same, with the tables made and so many of the values.
-fn answer(line: &[u8], desk: Desk, values: &mut [u64]) -> Desk {
+fn answer<W: Write>(out: &mut W, line: &[u8], desk: Desk, values: &mut [u64]) -> Desk {
     let c = taken(line);
     let places = c.places % 2051;
     let intervals = table(line, 0, places);
@@ -260,6 +283,7 @@ fn answer(line: &[u8], desk: Desk, values: &mut [u64]) -> Desk {
     let edges = table(line, 1, ends);
     let lent = part(c.lent, 10, values.len());
     perform(
+        out,
         line,
         c,
         desk,
@@ -270,23 +294,23 @@ fn answer(line: &[u8], desk: Desk, values: &mut [u64]) -> Desk {
 }
 
 // Each line is written out, then what it asks for is done.
-fn run(text: &[u8]) {
+fn run<W: Write>(out: &mut W, text: &[u8]) {
     let mut desk = Desk::fresh();
     let mut values = [0u64; 257];
     let mut at = 0;
     while at < text.len() {
-        let end = bytes::scan::find(text, at, text.len(), 10);
+        let end = streams::line_end(text, at);
         let line = &text[at..end];
         at = end + 1;
-        io::write_all(1, line);
-        desk = answer(line, desk, &mut values);
-        io::write_all(1, b"\n");
+        streams::write_all(out, line);
+        desk = answer(out, line, desk, &mut values);
+        streams::write_all(out, b"\n");
     }
 }
 
 // Reads the lines, and runs them.
-fn main() {
-    let mut text = io::large_buffer();
-    let n = io::read_full(0, &mut text);
-    run(&text[0..n]);
+fn main(rt: HostRuntime) {
+    let mut text = [0u8; 65536];
+    let n = streams::read_full(&mut rt.stdin(), &mut text);
+    run(&mut rt.stdout(), &text[0..n]);
 }
