@@ -4,6 +4,7 @@
 ghost use Rattle.std.specs.Prelude.{◌≡◌, length};
 
 use shorter::CutAnswer;
+use std::io::Write;
 
 // The bytes of a file at most, and one more, which tells that the input is too long.
 const FILE: usize = opening::FILE_BYTES + 1;
@@ -28,42 +29,46 @@ fn argument_room() -> [u8; ARGUMENT]
     [0u8; ARGUMENT]
 }
 
-// Tells on standard error that the shorter file was not written; a program has no exit status of its own.
-fn tell(written: bool) {
+// Tells on standard error that the shorter file was not written; the exit status stays 0.
+fn tell<W: Write>(errors: &mut W, written: bool) {
     if !written {
-        io::write_all(2, b"cut: standard output did not take the whole file\n");
+        streams::write_all(
+            errors,
+            b"cut: standard output did not take the whole file\n",
+        );
     }
 }
 
 // Writes the line of a refusal to standard error, and nothing to standard output.
-fn write_refused(k: u8) {
+fn write_refused<W: Write>(errors: &mut W, k: u8) {
     let mut text = [0u8; 64];
     let at = texts::put_refused(k, &mut text);
-    io::write_all(2, &text[..at]);
+    streams::write_all(errors, &text[..at]);
 }
 
 // Cuts the file on standard input after its first k steps.
-fn cut_input(k: usize) {
+fn cut_input(rt: &HostRuntime, k: usize) {
     let mut file = file_room();
-    let got = io::read_full(0, &mut file);
+    let got = streams::read_full(&mut rt.stdin(), &mut file);
     let mut room = file_room();
     let answer = shorter::cut(&file[..got], k, &mut room);
     match answer {
-        CutAnswer::Refused(j) => write_refused(j),
+        CutAnswer::Refused(j) => write_refused(&mut rt.stderr(), j),
         CutAnswer::Cut(m) => {
             let end = BLOCK * m;
-            tell(io::write_all(1, &room[..end]))
+            let written = streams::write_all(&mut rt.stdout(), &room[..end]);
+            tell(&mut rt.stderr(), written)
         }
     }
 }
 
 // Takes k from the argument, a decimal number of any size; one that is missing or anything else gets a line of usage.
-fn main() {
+fn main(rt: HostRuntime) {
     let mut text = argument_room();
-    let n = os::arg(1, &mut text);
+    let n = streams::argument(&rt, 1, &mut text);
     if !numerals::is_decimal(&text[..n]) {
-        io::write_all(2, b"usage: cut K <FILE >SHORTER-FILE\n");
+        streams::write_all(&mut rt.stderr(), b"usage: cut K <FILE >SHORTER-FILE\n");
         return;
     }
-    cut_input(numerals::number_in(&text[..n]));
+    cut_input(&rt, numerals::number_in(&text[..n]));
 }

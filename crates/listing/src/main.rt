@@ -11,6 +11,7 @@ use blocks::RECORD;
 use desk::Desk;
 use lines::Progress;
 use opening::OpenAnswer;
+use std::io::Write;
 
 // The bytes of a file at most, and one more, which tells that the input is too long.
 const FILE: usize = opening::FILE_BYTES + 1;
@@ -22,7 +23,7 @@ const PART: usize = 1600;
 const TEXT: usize = 10 * PART;
 
 // What the lines of some records come to: the progress behind them, and whether all of them were written.
-#[derive(Drop)]
+#[derive(Clone, Copy)]
 struct Part {
     progress: Progress,
     written: bool,
@@ -64,18 +65,19 @@ fn part_end(from: usize, all: usize) -> usize
     if all - from < PART { all } else { from + PART }
 }
 
-// Tells on standard error that the listing was not written; a program has no exit status of its own.
-fn tell(written: bool) {
+// Tells on standard error that the listing was not written; the exit status stays 0.
+fn tell<W: Write>(errors: &mut W, written: bool) {
     if !written {
-        io::write_all(
-            2,
+        streams::write_all(
+            errors,
             b"listing: standard output did not take the whole listing\n",
         );
     }
 }
 
 // Lists a part of the records into the text from its first byte on, and writes the lines.
-fn write_part(
+fn write_part<W: Write>(
+    out: &mut W,
     progress: Progress,
     n: usize,
     intervals: &[u16],
@@ -97,7 +99,7 @@ fn write_part(
         start, n, intervals, edges, edge_count, records, values, text,
     );
     let at = next.at;
-    let written = io::write_all(1, &text[..at]);
+    let written = streams::write_all(out, &text[..at]);
     Part {
         progress: next,
         written,
@@ -105,7 +107,8 @@ fn write_part(
 }
 
 // Writes the lines of all records, part by part.
-fn write_steps(
+fn write_steps<W: Write>(
+    out: &mut W,
     n: usize,
     intervals: &[u16],
     edges: &[u16],
@@ -126,6 +129,7 @@ fn write_steps(
     while from < records.len() {
         let to = part_end(from, records.len());
         let part = write_part(
+            out,
             progress,
             n,
             intervals,
@@ -142,8 +146,9 @@ fn write_steps(
     Part { progress, written }
 }
 
-// Writes the listing of an open file, from the values of its records on.
-fn write_run(
+// Writes the listing of an open file, from the values of its records on, and answers whether it was written whole.
+fn write_run<W: Write>(
+    out: &mut W,
     n: usize,
     intervals: &[u16],
     edges: &[u16],
@@ -151,21 +156,22 @@ fn write_run(
     records: &[u8],
     values: &mut [u64],
     text: &mut [u8],
-)
+) -> bool
     ensures values_after { values.new ≡ (parts_written (written_of (lent n intervals.now edges.now edge_count) (record { desk = fresh_desk; number = 1; at = 0 }) (values_in (length values.old) (record_list records.now)) text.old) (parts_in records.now)).state.values }
     ensures text_after { text.new ≡ (end_written (parts_written (written_of (lent n intervals.now edges.now edge_count) (record { desk = fresh_desk; number = 1; at = 0 }) (values_in (length values.old) (record_list records.now)) text.old) (parts_in records.now))).text }
 {
     replay::values(records, values);
-    let steps = write_steps(n, intervals, edges, edge_count, records, values, text);
+    let steps = write_steps(out, n, intervals, edges, edge_count, records, values, text);
     let progress = steps.progress;
     let desk = progress.desk;
     let at = texts::put_end(desk, 0, text);
-    let last = io::write_all(1, &text[..at]);
-    tell(steps.written & last);
+    let last = streams::write_all(out, &text[..at]);
+    steps.written & last
 }
 
-// Writes the listing of an opened file, from the places that it was opened into.
-fn write_opened(
+// Writes the listing of an opened file, from the places that it was opened into, and answers whether it was written whole.
+fn write_opened<W: Write>(
+    out: &mut W,
     n: usize,
     places: &[u16],
     edges: &[u16],
@@ -174,7 +180,7 @@ fn write_opened(
     total: usize,
     values: &mut [u64],
     text: &mut [u8],
-)
+) -> bool
     requires n_bound { (n ≤ 256) × (2 * edge_count ≤ 7936) × (16 * total ≤ 63488) }
     requires in_bounds { (512 ≤ length places.now) × (7936 ≤ length edges.now) × (63488 ≤ length records.now) × (256 ≤ length values.old) }
 {
@@ -182,6 +188,7 @@ fn write_opened(
     let ends = 2 * edge_count;
     let bytes = RECORD * total;
     write_run(
+        out,
         n,
         &places[..low],
         &edges[..ends],
@@ -189,29 +196,31 @@ fn write_opened(
         &records[..bytes],
         &mut values[..n],
         text,
-    );
+    )
 }
 
-// Writes the one line of a refused file.
-fn write_refused(k: u8, text: &mut [u8]) {
+// Writes the one line of a refused file, and answers whether it was written whole.
+fn write_refused<W: Write>(out: &mut W, k: u8, text: &mut [u8]) -> bool {
     let at = texts::put_refused(k, text);
-    tell(io::write_all(1, &text[..at]));
+    streams::write_all(out, &text[..at])
 }
 
 // Reads the file, opens it, and writes its listing.
-fn main() {
+fn main(rt: HostRuntime) {
     let mut file = file_room();
-    let got = io::read_full(0, &mut file);
+    let got = streams::read_full(&mut rt.stdin(), &mut file);
     let mut records = record_room();
     let mut edges = edge_room();
     let mut places = [0u16; opening::INTERVAL_PLACES];
     let answer = opening::open_run(&file[..got], &mut records, &mut edges, &mut places);
     let mut values = [0u64; lines::VALUES];
     let mut text = text_room();
-    match answer {
-        OpenAnswer::Refused(k) => write_refused(k, &mut text),
+    let mut out = rt.stdout();
+    let written = match answer {
+        OpenAnswer::Refused(k) => write_refused(&mut out, k, &mut text),
         OpenAnswer::Opened(n, edge_count, total) => {
             write_opened(
+                &mut out,
                 n,
                 &places,
                 &edges,
@@ -222,5 +231,6 @@ fn main() {
                 &mut text,
             )
         }
-    }
+    };
+    tell(&mut rt.stderr(), written);
 }

@@ -6,6 +6,8 @@ ghost use Rattle.texts.specs.Lines.{report_line};
 ghost use Rattle.texts.specs.Pages.{Puts};
 ghost use Rattle.needless.specs.Waits.{waits_of};
 
+use std::io::Write;
+
 // The bytes of a file at most, and one more, which tells that the input is too long.
 const FILE: usize = opening::FILE_BYTES + 1;
 
@@ -16,10 +18,10 @@ fn file_room() -> [u8; FILE]
     [0u8; FILE]
 }
 
-// Tells on standard error that the line was not written; a program has no exit status of its own.
-fn tell(written: bool) {
+// Tells on standard error that the line was not written; the exit status stays 0.
+fn tell<W: Write>(errors: &mut W, written: bool) {
     if !written {
-        io::write_all(2, b"waits: standard output did not take the line\n");
+        streams::write_all(errors, b"waits: standard output did not take the line\n");
     }
 }
 
@@ -32,10 +34,11 @@ fn put_line(file: &[u8], text: &mut [u8]) -> usize
 }
 
 // Reads the file, and writes the line of its report.
-fn main() {
+fn main(rt: HostRuntime) {
     let mut file = file_room();
-    let got = io::read_full(0, &mut file);
+    let got = streams::read_full(&mut rt.stdin(), &mut file);
     let mut text = [0u8; 64];
     let at = put_line(&file[..got], &mut text);
-    tell(io::write_all(1, &text[..at]));
+    let written = streams::write_all(&mut rt.stdout(), &text[..at]);
+    tell(&mut rt.stderr(), written);
 }
