@@ -9,7 +9,8 @@ use native.Mathlib.Omega.{arith}
 use lib.Dec.{leb, ltb}
 use borrow.Author.Tests.{lt-ltb, le-ltb, leb-true, leb-false, ltb-true}
 use lib.ListN.{length, take, drop, get_or, set, length-append, length-set, drop_of_length-le}
-use Rattle.io.specs.Digits.{last_digits, hex_digit_ascii, IsDigitCount}
+use Rattle.std.specs.Prelude.{decimal as std_decimal}
+use Rattle.std.proofs.lemmas.Fmt.{AppendsLastDigit, decimal_from_appends, length-decimal-le_succ}
 use Rattle.octets.specs.Writes.{over_at}
 use Rattle.octets.proofs.Writes.{over_none, over_turn}
 use Rattle.lists.proofs.Bools.{bool}
@@ -98,37 +99,17 @@ put_fits (x ∷ xs) text at h =
     ∙ ap (λ (t : List ℕ). page_of t (suc at + length xs)) turn
     ∙ ap (page_of (over_at at (x ∷ xs) text)) next
 
--- THE DIGITS of a number
-ten_some : (j : ℕ) → 1 ≤ 10 ^ j
-ten_some zero = omega (arith, pow-zero 10)
-ten_some (suc j) = omega (arith, pow-suc 10 j, ten_some j)
-
--- one digit
-glyph_digit : (d : ℕ) → d < 10 → hex_digit_ascii d ≡ 48 + d
-glyph_digit d h = ap (λ (b : Bool). cond b (48 + d) (87 + d)) (lt-ltb d 10 h)
-
--- the fewest places that hold a number have the digits of the definition
-fewest_decimal : (most k n : ℕ) → n < most → IsDigitCount 10 1 n k → last_digits 10 k n ≡ decimal_of most n
+-- THE DIGITS of a number: one, or the last behind the others
+last_digit : AppendsLastDigit decimal_of
 unfolding decimal_of
-fewest_decimal zero k n h f = absurd (not-suc-le-zero h)
-fewest_decimal (suc most) zero n h f = absurd (not-suc-le-zero f.0)
-fewest_decimal (suc most) (suc zero) n h f =
-    let s : n < 10 = omega (arith, f.1, pow-suc 10 0, pow-zero 10) in
-    let m : n % 10 ≡ n = omega arith in
-    ap (λ (d : ℕ). hex_digit_ascii d ∷ []) m
-    ∙ ap (λ (d : ℕ). d ∷ []) (glyph_digit n s)
-    ∙ sym (ap (λ (b : Bool). cond b ((48 + n) ∷ []) (decimal_of most (n / 10) ++ ((48 + n % 10) ∷ []))) (lt-ltb n 10 s))
-fewest_decimal (suc most) (suc (suc j)) n h f =
-    let one_less : suc (suc j) - 1 ≡ suc j = omega arith in
-    let g : 10 ^ suc j ≤ n = rw one_less at (f.2 (omega arith)) in
-    let ten = pow-suc 10 j in
-    let big : 10 ≤ n = omega (arith, g, ten, ten_some j) in
-    let less : n / 10 < 10 ^ suc j = omega (arith, f.1, pow-suc 10 (suc j)) in
-    let two-less : suc j - 1 ≡ j = omega arith in
-    let shorter : IsDigitCount 10 1 (n / 10) (suc j) = (omega arith, less, λ _. rw two-less (omega (arith, g, ten))) in
-    ap (λ (t : List ℕ). t ++ (hex_digit_ascii (n % 10) ∷ [])) (fewest_decimal most (suc j) (n / 10) (omega arith) shorter)
-    ∙ ap (λ (d : ℕ). decimal_of most (n / 10) ++ (d ∷ [])) (glyph_digit (n % 10) (omega arith))
-    ∙ sym (ap (λ (b : Bool). cond b ((48 + n) ∷ []) (decimal_of most (n / 10) ++ ((48 + n % 10) ∷ []))) (le-ltb n 10 big))
+last_digit = record {
+  one = λ k n h. ap (λ (b : Bool). cond b ((48 + n) ∷ []) (decimal_of k (n / 10) ++ ((48 + n % 10) ∷ []))) (lt-ltb n 10 h);
+  more = λ k n h. ap (λ (b : Bool). cond b ((48 + n) ∷ []) (decimal_of k (n / 10) ++ ((48 + n % 10) ∷ []))) (le-ltb n 10 h);
+}
+
+-- the digits that std has are those of the definition
+pub same_decimal : (n : ℕ) → n < 2 ^ 64 → std_decimal n ≡ decimal n
+same_decimal n h = sym (decimal_from_appends decimal_of last_digit (suc n) n h (omega (arith, length-decimal-le_succ n h)))
 
 -- a number below 10 to the k has at most k digits
 pub decimal_most : (most k n : ℕ) → n < 10 ^ k → 1 ≤ k → length (decimal_of most n) ≤ k
@@ -144,10 +125,6 @@ decimal_most (suc most) (suc (suc j)) n h p =
     by : (b : Bool) → length (decimal_of most (n / 10)) ≤ suc j → length (cond b ((48 + n) ∷ []) (decimal_of most (n / 10) ++ ((48 + n % 10) ∷ []))) ≤ suc (suc j)
     by true q = omega arith
     by false q = omega (arith, q, length-append (decimal_of most (n / 10)) ((48 + n % 10) ∷ []))
-
--- the digits that `io` gives are those of the definition
-pub taken : (n k : ℕ) (ds : List ℕ) → IsDigitCount 10 1 n k → take k ds ≡ last_digits 10 k n → take k ds ≡ decimal n
-taken n k ds f e = e ∙ fewest_decimal (suc n) k n (omega arith) f
 
 -- numbers, a space before each: the first of those from place i on
 pub spaced_step : (l : List ℕ) (i : ℕ) {x : ℕ} → get_or l i 0 ≡ x → i < length l → spaced (drop i l) ≡ (space ++ decimal x) ++ spaced (drop (i + 1) l)

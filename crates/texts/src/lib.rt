@@ -13,6 +13,7 @@ ghost use Rattle.texts.specs.Pages.{Puts};
 
 use arrivals::PARTIES;
 use desk::Desk;
+use itoa::Buffer;
 use locks::Stage;
 use parties::Entry;
 use replay::Outcome;
@@ -41,9 +42,8 @@ fn put_bytes(bytes: &[u8], at: usize, text: &mut [u8]) -> usize
 fn put_number(n: u64, at: usize, text: &mut [u8]) -> usize
     ensures { Puts at (decimal n) text.old text.new result }
 {
-    let mut digits = [0u8; 20];
-    let k = io::decimal(n, &mut digits);
-    put_bytes(&digits[..k], at, text)
+    let mut digits = Buffer::new();
+    put_bytes(digits.format(n).as_bytes(), at, text)
 }
 
 // Puts a word, and a number behind it.
