@@ -2,14 +2,7 @@
 use mathlib.Core.Path.{refl}
 use native.Mathlib.Omega.{arith}
 use lib.Bits.{and_le_l}
-use Rattle.reach_sets.proofs.common.Statement.{statement}
-use Rattle.reach_sets.proofs.common.Tie as tie
+use Rattle.reach_sets.proofs.common.Goals as goal
 
-returns : tie.Need-returns
+pub returns : goal.returns
 returns c = (refl, omega (arith, and_le_l c.args.a c.args.b, c.ranges))
-
-pub common-spec : {M : Type 1} → statement M
-common-spec =
-    tie.close
-    (tie.spec
-    returns)
