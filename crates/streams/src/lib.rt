@@ -3,7 +3,7 @@
 
 ghost use Rattle.std.specs.Prelude.{◌≡◌, ◌≢◌, ◌<◌, ◌≤◌, ℕ, true, length, take, decimal, slice_index};
 ghost use Rattle.std.specs.Io.KnownBytes.{Appends, Consumes};
-ghost use Rattle.streams.specs.Fronts.{AppendsFront};
+ghost use Rattle.streams.specs.Fronts.{AppendsFront, eight_digits};
 
 use itoa::Buffer;
 use memchr::memchr;
@@ -74,8 +74,13 @@ pub fn print_decimal<W: Write>(out: &mut W, n: u64) -> bool
 }
 
 // Writes a number in hexadecimal digits, in lower case, with zeros before it up to eight, and answers whether it was written whole.
-pub fn print_hex<W: Write>(out: &mut W, n: u32) -> bool {
-    write!(out, "{n:08x}").is_ok()
+pub fn print_hex<W: Write>(out: &mut W, n: u32) -> bool
+    ensures { result ≡ true → Appends (W.contents out.old) (W.contents out.new) (eight_digits n) }
+{
+    match write!(out, "{n:08x}") {
+        Ok(()) => true,
+        Err(_) => false,
+    }
 }
 
 // Where the line that begins at a place ends: at its newline, or at the end of the text.

@@ -1,5 +1,5 @@
 -- Each line's end lies behind its start, and the records keep their length.
-use Rattle.std.proofs.Common.{◌≡◌, ◌≤◌, ◌-◌, length}
+use Rattle.std.proofs.Common.{◌≡◌, ◌-◌, length}
 use Rattle.file_cases.proofs.run.Given as goal
 
 abbrev pub invariant-loop-at : goal.invariant-loop-at
