@@ -1,5 +1,5 @@
 -- What is said last begins no later than the place.
-use Rattle.std.proofs.Common.{◌≡◌, ◌≤◌, ◌-◌, length}
+use Rattle.std.proofs.Common.{◌≤◌, ◌-◌, length}
 use Rattle.cases.proofs.say_bytes.Given as goal
 
 abbrev pub invariant-loop-i : goal.invariant-loop-i

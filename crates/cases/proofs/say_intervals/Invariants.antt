@@ -1,5 +1,5 @@
 -- The nodes come one after the other.
-use Rattle.std.proofs.Common.{◌≡◌, ◌≤◌, ◌-◌, length}
+use Rattle.std.proofs.Common.{◌-◌}
 use Rattle.cases.proofs.say_intervals.Given as goal
 
 abbrev pub decreases-loop-node : goal.decreases-loop-node
