@@ -1,5 +1,5 @@
 -- The names of a call that 15 does not refuse. Assumes nothing.
-use Rattle.std.proofs.Common.{◌≡◌, ℕ, ◌<◌, ◌≤◌, Bool, true, false, not, ◌&&◌, ltb, leb, List, length, get_or, take, ap, arith, length-take, ltb-true, leb-true}
+use Rattle.std.proofs.Common.{◌≡◌, ℕ, ◌<◌, ◌≤◌, Bool, false, not, ◌&&◌, ltb, leb, List, get_or, take, ap, arith, length-take, ltb-true, leb-true}
 use borrow.Author.Tests.{not-false}
 use Rattle.lists.specs.Lists.{any}
 use Rattle.lists.proofs.Bools.{bool, not_both, and_left, and_right, or_left, or_right}

@@ -1,5 +1,5 @@
 -- From no refusal to the facts by name. Assumes nothing.
-use Rattle.std.proofs.Common.{◌≡◌, ℕ, ◌*◌, Bool, true, false, not, ltb, List, length, refl, true≢false, arith, ltb-false, ltb-true}
+use Rattle.std.proofs.Common.{◌≡◌, ℕ, ◌*◌, Bool, false, not, ltb, List, length, refl, true≢false, arith, ltb-false, ltb-true}
 use mathlib.Core.Option.{none}
 use borrow.Author.Tests.{not-false}
 use Rattle.lists.specs.Lists.{any_below}
