@@ -8,7 +8,7 @@ use native.Mathlib.Numerals.{add-one}
 use native.Mathlib.Omega.{arith}
 use lib.Dec.{leb, ltb}
 use borrow.Author.Tests.{lt-ltb, le-ltb, leb-true, leb-false, ltb-true}
-use lib.ListN.{length, take, drop, get_or, set, length-append, length-set, drop_of_length-le}
+use lib.ListN.{length, drop, get_or, set, length-append, length-set, drop_of_length-le}
 use Rattle.std.specs.Prelude.{decimal as std_decimal}
 use Rattle.std.proofs.lemmas.Fmt.{AppendsLastDigit, decimal_from_appends, length-decimal-le_succ}
 use Rattle.octets.specs.Writes.{over_at}

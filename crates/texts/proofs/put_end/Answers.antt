@@ -1,0 +1,14 @@
+-- `put_end` meets its contract: the line `end`, and behind it those of the parties. Assumes nothing.
+use mathlib.Core.Path.{ap, ◌∙◌}
+use Prim.Native.Nat.{ℕ}
+use Rattle.lists.specs.Lists.{sum}
+use Rattle.replay.specs.Replay.{holders_at}
+use Rattle.texts.specs.Lines.{end_line, party_lines}
+use Rattle.texts.proofs.Puts.{puts_two, puts_as}
+use Rattle.texts.proofs.put_end.Goals as goal
+
+pub returns : goal.returns
+returns c = puts_two c.args.at (end_line (holders_at c.args.desk) c.args.desk.waiting (sum c.args.desk.grants)) (party_lines 0 c.args.desk.grants) c.args.text.now
+    (puts_as c.args.at c.args.text.now (ap (λ (k : ℕ). end_line k c.args.desk.waiting c.all_grants.result) c.holders.ensures ∙ ap (end_line (holders_at c.args.desk) c.args.desk.waiting) c.all_grants.ensures)
+    c.put_end_line-behind.ensures)
+    c.put_party_lines.ensures
