@@ -25,6 +25,7 @@ Before q p (x ∷ xs) = ((x ≡ q) × In p xs) ⊎ Before q p xs
 
 pub before_in : (q p : ℕ) (xs : List ℕ) → Before q p xs → In q xs
 before_in q p (x ∷ xs) (inl (e, i)) = subst (λ (k : ℕ). In k (x ∷ xs)) e head
+before_in q p [] x' = elim x' [ ]
 before_in q p (x ∷ xs) (inr b) = tail (before_in q p xs b)
 
 -- whoever stands before the last of a list is among the others
@@ -75,9 +76,11 @@ before_place q (suc i) (x ∷ xs) h m = in_cons m (λ e. inl (e, place_in xs i (
 -- THE FRONT of a list before a party: in a list of different parties, whoever stands before it is there,
 pub before_front : (q p : ℕ) (xs : List ℕ) → Distinct xs → Before q p xs → In q (front_of p xs)
 unfolding front_of
+before_front q p [] s b = elim b [ ]
 before_front q p (x ∷ xs) s b = rw (ne_eqb x p (λ e. s.0 (subst (λ (k : ℕ). In k xs) (sym e) (behind_it b)))) (by (before_front q p xs s.1) b)
   where
     later : (ys : List ℕ) → Before q p ys → In p ys
+    later [] b = elim b [ ]
     later (y ∷ ys) (inl (e, i)) = tail i
     later (y ∷ ys) (inr c) = tail (later ys c)
 

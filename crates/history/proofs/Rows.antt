@@ -189,6 +189,7 @@ module _ {A : Type 0} where
   unfolding serial_leaves with_op
   insert_leaves u p o (v ∷ vs) (latest e n h) =
       rw (add_here p o v vs n, eq-eqb v.party p e, ops_leave_snoc u v.ops o) (row_leaves_past (ops_leave u v.ops) o vs h)
+  insert_leaves u p o [] x' = elim x' [ ]
   insert_leaves u p o (v ∷ vs) (later c) =
       rw (add_later p o v vs (Clear_visited c)) (insert_leaves (ops_leave u v.ops) p o vs c)
 
@@ -206,6 +207,7 @@ module _ {A : Type 0} where
         row_finds_past w o vs h,
         finds_past_row w o vs h,
       )
+  insert_finds u p o [] x' = elim x' [ ]
   insert_finds u p o (v ∷ vs) (later c) =
       let w : List ℕ = ops_leave u v.ops in
       rw (
@@ -246,6 +248,7 @@ module _ {A : Type 0} where
 
   pub Clear_new : (P : Op A → Type 0) (p : ℕ) (vs : List (Transaction A)) (qs : List ℕ) → Clear P p vs → Clear P p (vs ++ map begun qs)
   Clear_new P p (v ∷ vs) qs (later c) = later (Clear_new P p vs qs c)
+  Clear_new P p [] qs x' = elim x' [ ]
   Clear_new P p (v ∷ vs) qs (latest e n h) = step (clear_or_none P p (vs ++ map begun qs) (All_row_new P vs qs h))
     where
       step : Clear P p (vs ++ map begun qs) ⊎ (visited p (vs ++ map begun qs) ≡ false) → Clear P p (v ∷ vs ++ map begun qs)
@@ -298,6 +301,7 @@ module _ {A : Type 0} where
       step : (b : Bool) → visited p vs ≡ b → Clear P q (add_to_latest p o vs) → Clear P q (add_to_latest p o (v ∷ vs))
       step true e ih = rw (add_later p o v vs e) (later ih)
       step false e ih = rw (add_here p o v vs e) (later c)
+  Clear_add P q p o [] s x'' = elim x'' [ ]
   Clear_add P q p o (v ∷ vs) s (latest e n h) = step (visited p vs) refl s
     where
       step : (b : Bool) → visited p vs ≡ b → (p ≡ q) ⊎ P o → Clear P q (add_to_latest p o (v ∷ vs))

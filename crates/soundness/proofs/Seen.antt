@@ -18,7 +18,7 @@ use Rattle.lists.proofs.Distinct.{any_in, any_found}
 use Rattle.hierarchy.specs.Hierarchy.{edges_of, edge_wrong, Edge, Reach, flagged, reach, in_reach}
 use Rattle.hierarchy.proofs.Legals.{no_edge, right_edge}
 use Rattle.hierarchy.proofs.Reaches.{reach_all_law, reach_only}
-use Rattle.naming.specs.Names.{rises, ascending, names_of, named}
+use Rattle.naming.specs.Names.{rises, ascending, names_of}
 use Rattle.naming.proofs.Gathering.{ascending_most}
 use Rattle.locks.specs.declared.Mode.{Mode}
 use Rattle.locks.specs.declared.Lock.{Lock}
