@@ -1,5 +1,5 @@
 -- Each line's end lies behind its start.
-use Rattle.std.proofs.Common.{◌≡◌, ◌≤◌, ◌-◌, length}
+use Rattle.std.proofs.Common.{◌-◌, length}
 use Rattle.desk_cases.proofs.run.Given as goal
 
 abbrev pub decreases-loop-at : goal.decreases-loop-at

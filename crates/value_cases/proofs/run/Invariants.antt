@@ -1,5 +1,5 @@
 -- Each line's end lies behind its start, and the values keep their count.
-use Rattle.std.proofs.Common.{◌≡◌, ◌≤◌, ◌-◌, length}
+use Rattle.std.proofs.Common.{◌≡◌, ◌-◌, length}
 use Rattle.value_cases.proofs.run.Given as goal
 
 abbrev pub invariant-loop-at : goal.invariant-loop-at

@@ -1,5 +1,5 @@
 -- No more are counted than were looked at.
-use Rattle.std.proofs.Common.{◌≡◌, ◌≤◌, ◌-◌, length}
+use Rattle.std.proofs.Common.{◌≤◌, ◌-◌}
 use Rattle.value_cases.proofs.say_scratch.Given as goal
 
 abbrev pub invariant-loop-i : goal.invariant-loop-i

@@ -1,5 +1,5 @@
 -- The places come one after the other.
-use Rattle.std.proofs.Common.{◌≡◌, ◌≤◌, ◌-◌, length}
+use Rattle.std.proofs.Common.{◌-◌, length}
 use Rattle.value_cases.proofs.say_values.Given as goal
 
 abbrev pub decreases-loop-i : goal.decreases-loop-i

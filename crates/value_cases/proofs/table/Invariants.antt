@@ -1,5 +1,5 @@
 -- The table keeps its length.
-use Rattle.std.proofs.Common.{◌≡◌, ◌≤◌, ◌-◌, length}
+use Rattle.std.proofs.Common.{◌≡◌, ◌-◌, length}
 use Rattle.value_cases.proofs.table.Given as goal
 
 abbrev pub invariant-loop-i : goal.invariant-loop-i
