@@ -37,7 +37,7 @@ use Rattle.desk.specs.Steps.{scratch_left, get_unless, get_step, put_unless, put
 use Rattle.desk.proofs.Facts.{step_facts}
 use Rattle.grants.proofs.Counts.{grant_below, grants_below, grants_length}
 use Rattle.parties.proofs.Clauses.{clauses, sound_few}
-use Rattle.replay.specs.Replay.{StepAnswer, granted, refused, enter_line, get_line, put_line, add_line, leave_line, answer_in}
+use Rattle.replay.specs.Replay.{StepAnswer, refused, enter_line, get_line, put_line, add_line, leave_line, answer_in}
 use Rattle.replay.specs.Replay.{enter_call, fresh_scratch, get_call, put_call, add_call, leave_call, step_of, perform_step}
 use Rattle.runs.specs.Run.{lend, Call, lent_to, State, listed, after_enter, after_get, after_put, after_add, after_leave, move_call, move}
 use Rattle.runs.proofs.Lends.{restored_full, put_length, add_length}
