@@ -20,7 +20,8 @@ A name is found where it is *declared*; that it occurs, in a comment or in use, 
   in crates/*/specs and proofs     definitions, theorems, records, data, their fields and constructors, modules
   in crates/*/src                  functions, structs, fields, enums, variants, constants; the parameters of public functions; crates, in crates.txt
   files                            must-fail edits, conformance cases, a function's proofs by its folder
-  the kit's                        what a crate imports of it (`use lib.., mathlib..`), or calls (`io::..`)
+  the kit's                        what a crate imports of it (`use Rattle.std.., mathlib..`, and not what it imports of a crate of crates.txt), or takes of it in
+                                   its code (`use std::io::Read`)
   in include/record_desk.h         functions
   in tools/blockfile               functions
 and the words in WORDS, each with its reason. Variables, and the parameters of definitions and of private functions, are known only inside a span of
@@ -30,6 +31,7 @@ Beyond that:
   `a`, `b` (crate/specs/File)      the file exists and declares each name of the list before the parenthesis; (crate), (File): the crate does, a file so named
   edit `a`, edits `a`, `b`         each is the name of a must-fail edit; so is each name in a table's column Edit or Edits
   conformance `a`, `b`             each is the name of a conformance case
+  `a` (crate/proofs/F)             F is a function: one of its files Invariants and Answers declares the name
   a table's column Function        each name in it is a public function of the crate (or of the struct) that the last `crate::name` of its cell named, and the
                                    column has every public function of the libraries. "N public functions" says how many there are, "its N" in a table's row
                                    how many the crate has that the row begins with
@@ -79,7 +81,7 @@ class Declared:
 
 
 def mixfix(name):
-    return [part for part in name.split("_") if part] if name.startswith("_") or name.endswith("_") else [name]
+    return [part for part in name.split("◌") if part]
 
 
 def of_antt(text):
@@ -145,7 +147,7 @@ def of_rattle(text):
         else:
             mine.update(re.findall(r"\bfn (\w+)", body))
         d.names.update(mine)
-    for name, parameters in re.findall(r"^ *pub (?:extern \"C\" )?fn (\w+)\(([^)]*)\)", code, re.M):
+    for name, parameters in re.findall(r"^ *pub (?:extern \"C\" )?fn (\w+)(?:<[^<>(]*>)?\(([^)]*)\)", code, re.M):
         d.public.add(name)
         d.parameters.update(re.findall(r"\b(\w+): ", parameters))
     d.inner.update(re.findall(r"\blet (?:mut )?(\w+)", code))
@@ -154,28 +156,30 @@ def of_rattle(text):
     return d
 
 
-crates = [line.split(":")[0] for line in read("crates.txt").split("\n") if line and not line.startswith("#")]
+crates = [line.split(":")[0].split()[0] for line in read("crates.txt").split("\n") if line and not line.startswith("#")]
 files, kit = {}, set()
 for name in sorted(glob.glob("crates/**/*.antt", recursive=True) + glob.glob("crates/**/*.rt", recursive=True)):
     text = read(name)
     files[name] = of_antt(text) if name.endswith(".antt") else of_rattle(text)
     if name.endswith(".antt"):
         files[name].statements = statements(text)
-    for path, names in re.findall(r"^(?:ghost )?use ([\w.·-]+)\.\{([^}]*)\}", text, re.M):
-        if not path.startswith("Rattle·"):
+    for path, names in re.findall(r"^(?:ghost )?use ([\w.+-]+)\.\{([^}]*)\}", text, re.M):
+        if not (path.startswith("Rattle.") and path.split(".")[1] in crates):
             for n in names.split(","):
                 for one in n.split(" as "):
                     kit.update(mixfix(one.strip()))
-                    kit.add(one.strip())
             kit.update(path.split("."))
-    kit.update(re.findall(r"\b(?:io|os|bytes|libc)::(\w+)", re.sub(r"//[^\n]*", "", text)))
+    if name.endswith(".rt"):
+        for path in re.findall(r"^use ([\w:]+(?:::\{[^}]*\})?);", text, re.M):
+            if path.split("::")[0] not in crates:
+                kit.update(re.findall(r"\w+", path))
 edits = {os.path.basename(f)[:-5] for f in glob.glob("crates/*/must-fail/*.edit")}
 cases = {os.path.basename(f)[:-7] for f in glob.glob("conformance/*.blocks")}
 given = {os.path.basename(f) for f in glob.glob("crates/*/*") if os.path.isfile(f)}  # stdin, stdout
-modules = {os.path.basename(f)[:-5] for f in files if f.endswith(".antt")} - {"Proof", "Lib"}
+modules = {os.path.basename(f)[:-5] for f in files if f.endswith(".antt")} - {"Invariants", "Answers", "Proof", "Lib"}
 header = set(re.findall(r"\b(\w+)\(", re.sub(r"/\*.*?\*/", "", read("include/record_desk.h"), flags=re.S)))
 tool = set(re.findall(r"^def (\w+)\(", read("tools/blockfile"), re.M))
-declared = set(crates) | tool | given | edits | cases | modules | header | kit | {"io", "libc", "bytes"}
+declared = set(crates) | tool | given | edits | cases | modules | header | kit
 members, inner = {}, set()
 for d in files.values():
     declared |= d.names | d.parameters
@@ -273,7 +277,7 @@ def look(document, at, span):
     if is_line(span) or re.fullmatch(r"[0-9A-F]{2}(?: [0-9A-F]{2})+", span):
         looked += 1
         return
-    for owner, member in re.findall(rf"({NAME})(?:::| \.)({NAME})", span):
+    for owner, member in re.findall(rf"({NAME})(?:::| ?\.)({NAME})", span):
         if owner in members and member not in members[owner] and owner not in crates:
             miss(document, at, f"{owner} has no {member}: `{span}`")
         if owner in crates and not any(member in d.names for f, d in files.items() if f.startswith(f"crates/{owner}/src")):
@@ -302,7 +306,8 @@ def in_place(document, at, names, place):
         where = [f for f in files if f.endswith(f"/{place}.antt")]
     elif crate in crates:
         whole = rest in ("src", "specs", "proofs")
-        where = [f for f in files if f in (f"crates/{place}.antt", f"crates/{place}/Proof.antt") or whole and f.startswith(f"crates/{place}/")]
+        own = [f"crates/{place}{end}.antt" for end in ("", "/Invariants", "/Answers")]
+        where = [f for f in files if f in own or whole and f.startswith(f"crates/{place}/")]
         if not where:
             miss(document, at, f"no such file: ({place})")
             return
