@@ -52,11 +52,12 @@ COMMANDS = {"rt", "rattle", "gcc", "ulimit"}
 
 # Words that are no names of the crates, by the reason why they may be cited.
 WORDS = {
-    "words of the languages Rattle, antt and C": """let else if match return pub extern mut use as record elim rw simp search needs by omega ap self ensures requires
-        no_mangle usize u8 u16 u32 u64 bool old C""",
-    "names that the kit gives in the goals of a proof": """Need Need-slice-aggregate After-queue2 After-scratch After-slice-known Tie Lts args before came ensures given if1 kept loop-again taken
-        elem-fits element-copy-out-e mul-e slice-aggregate slice-known shared-slice-known keysN""",
-    "variables of an example in the text": "arr test",
+    "words of the languages Rattle, antt and C": """let else if match return pub extern mut use as record elim rw simp search grind by omega ap self ensures requires
+        unsafe no_mangle usize u8 u16 u32 u64 bool old C""",
+    "names that the kit gives in the goals of a proof": """goal at args ensures given initial branch auto invariant Start After-is_out Else-k-ne0 one_name_more-bounds if-closer best-is
+        slice_known-1 shared_slice_known shared_slice_known-in-loop-i-1""",
+    "such names with a place for the source's": "STEP FIELD GOAL PLACE F slice_bounds-F-end overflow_cast-x if-a-b in-V",
+    "variables of an example in the text": "test",
     "the gate's last line": "N passed failed",
 }
 
@@ -176,7 +177,8 @@ for name in sorted(glob.glob("crates/**/*.antt", recursive=True) + glob.glob("cr
 edits = {os.path.basename(f)[:-5] for f in glob.glob("crates/*/must-fail/*.edit")}
 cases = {os.path.basename(f)[:-7] for f in glob.glob("conformance/*.blocks")}
 given = {os.path.basename(f) for f in glob.glob("crates/*/*") if os.path.isfile(f)}  # stdin, stdout
-modules = {os.path.basename(f)[:-5] for f in files if f.endswith(".antt")} - {"Invariants", "Answers", "Proof", "Lib"}
+own_proof = re.compile(r"/proofs/.+/(?:Invariants|Answers|Proof)\.antt$")  # of a function: no module that a page may mean by this name alone
+modules = {os.path.basename(f)[:-5] for f in files if f.endswith(".antt") and not own_proof.search(f)} - {"Lib"}
 header = set(re.findall(r"\b(\w+)\(", re.sub(r"/\*.*?\*/", "", read("include/record_desk.h"), flags=re.S)))
 tool = set(re.findall(r"^def (\w+)\(", read("tools/blockfile"), re.M))
 declared = set(crates) | tool | given | edits | cases | modules | header | kit
@@ -303,7 +305,7 @@ def in_place(document, at, names, place):
         where = [f for f in files if f.startswith(f"crates/{place}/")]
         labels = {os.path.basename(f)[:-5] for f in glob.glob(f"crates/{place}/must-fail/*.edit")}
     elif place in modules:
-        where = [f for f in files if f.endswith(f"/{place}.antt")]
+        where = [f for f in files if f.endswith(f"/{place}.antt") and not own_proof.search(f)]
     elif crate in crates:
         whole = rest in ("src", "specs", "proofs")
         own = [f"crates/{place}{end}.antt" for end in ("", "/Invariants", "/Answers")]
