@@ -1,4 +1,4 @@
-/* The record desk's functions that C and C++ may call. Link the static libraries that `rt staticlib NAME` writes. */
+/* The record desk's functions that C and C++ may call. Link the static libraries that `tools/programs octets_c locks_c` puts into target/staticlib. */
 #ifndef RECORD_DESK_H
 #define RECORD_DESK_H
 
