@@ -47,7 +47,7 @@ abbrev pub link_refusal : Hierarchy → Desk → (party parent child : ℕ) → 
 link_refusal H d party parent child scratch = refusal (link_checks H d party parent child scratch)
 
 -- the desk after a link: waiters may have another cover, and keep their turn; arrival order and counts stay. Over tables that no build and no links have made, where a
--- parent's interval need not contain its child's, it may be one that is not sound: that it is sound is promised over built and linked hierarchies (`link-sound` in soundness)
+-- parent's interval need not contain its child's, it may be one that is not sound: that it is sound over built and linked hierarchies is still to be proved
 abbrev pub link_desk : Hierarchy → (parent child : ℕ) → Desk → Desk
 link_desk H parent child d = record { entries = link_entries H parent child d.entries; queue = d.queue; waiting = d.waiting; grants = d.grants }
 

@@ -63,6 +63,16 @@ module _ (n : ℕ) (edges : List ℕ) (count : ℕ) where
         let r = refused_here (1 when build_short n edges count places scratch) (hierarchy_checks n edges count) h in
         rw (r, h) (refl, (refl, refl))
 
+    -- where the scratch is too short, with the premises that the code has tested: each of the three parts
+    pub scratch_short_answer : n ≤ length places / 2 → count ≤ length edges / 2 → length scratch < 512 → refused 1 ≡ (build_step n edges count places scratch).answer
+    scratch_short_answer g f h = (left_short (short_scratch g f h)).0
+
+    pub scratch_short_places : n ≤ length places / 2 → count ≤ length edges / 2 → length scratch < 512 → places ≡ (build_step n edges count places scratch).places
+    scratch_short_places g f h = (left_short (short_scratch g f h)).1.0
+
+    pub scratch_short_scratch : n ≤ length places / 2 → count ≤ length edges / 2 → length scratch < 512 → scratch ≡ (build_step n edges count places scratch).scratch
+    scratch_short_scratch g f h = (left_short (short_scratch g f h)).1.1
+
     module _ (h : build_short n edges count places scratch ≡ false) (scratch' : List ℕ) (wiped : scratch' ≡ over (replicate 512 0) scratch) where
       -- after another refusal
       pub left_refused : (k : ℕ) → k ≡ number_of (refusal (hierarchy_checks n edges count)) → (k ≡ 0 → ⊥)

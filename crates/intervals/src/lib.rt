@@ -214,6 +214,7 @@ fn write_intervals(n: usize, edges: &[u16], edge_count: usize, numbers: &[u16], 
 }
 
 // Builds the intervals of n nodes.
+#[tactic(auto, using(crate::proofs::Builds::scratch_short_answer, crate::proofs::Builds::scratch_short_places, crate::proofs::Builds::scratch_short_scratch))]
 pub fn build(
     n: usize,
     edges: &[u16],

@@ -14,7 +14,7 @@ link_edges es parent child = es ++ (parent ∷ child ∷ [])
 abbrev pub reaches : ℕ → List ℕ → (node x : ℕ) → Bool
 reaches n es node x = flagged (reach n es node) x
 
--- the smallest interval that contains both (`joined-smallest` in links): the bounds of two names
+-- the smallest interval that contains both: the bounds of two names (that none is smaller is still to be proved)
 abbrev pub joined : Interval → Interval → Interval
 joined a b = one_more a b
 

@@ -1,4 +1,4 @@
-// Whether two holds conflict, for the C host: the static library liblocks.a (tools/archives).
+// Whether two holds conflict, for the C host: the static library liblocks.a (tools/programs).
 #![tactic(auto)]
 
 ghost use Rattle.std.specs.Prelude.{◌≡◌};

@@ -1,4 +1,4 @@
-// The check of a block file, for the C host: the static library liboctets.a (tools/archives).
+// The check of a block file, for the C host: the static library liboctets.a (tools/programs).
 #![tactic(auto)]
 
 ghost use Rattle.std.specs.Prelude.{◌≡◌};

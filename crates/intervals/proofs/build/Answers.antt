@@ -15,13 +15,13 @@ use Rattle.lists.proofs.Loops.{lent}
 use Rattle.lists.proofs.Parts.{behind, laid, zeroed, enough_cleared}
 use Rattle.hierarchy.proofs.Legals.{Promise, promised}
 use Rattle.intervals.proofs.Writes.{legal_edges}
-use Rattle.intervals.proofs.Builds.{legal_of, short_places, short_edges, short_scratch, long_enough, left_short, left_refused, left_built}
+use Rattle.intervals.proofs.Builds.{legal_of, short_places, short_edges, long_enough, left_short, left_refused, left_built}
 use Rattle.intervals.proofs.build.Goals as goal
 use Rattle.intervals.proofs.build.Goals.{After-number, After-refused-refusal, Else-refusal-ne0}
 
 -- what is known once the hierarchy is judged
 enough : (c : After-refused-refusal) → build_short c.args.n c.args.edges.now c.args.edge_count c.args.places.now c.args.scratch.now ≡ false
-enough c = long_enough c.args.n c.args.edges.now c.args.edge_count c.args.places.now c.args.scratch.now c.if-places-n.false c.if-edges-edge_count.false c.if-scratch-lt-SCRATCH.false
+enough c = long_enough c.args.n c.args.edges.now c.args.edge_count c.args.places.now c.args.scratch.now c.if-places-n.false c.if-edges-edge_count.false (omega arith)
 
 -- what is known where it is legal
 module _ (c : Else-refusal-ne0) where
@@ -35,7 +35,7 @@ module _ (c : Else-refusal-ne0) where
   whole = omega (arith, c.if-edges-edge_count.false)
 
   marks_long : length (take c.args.n c.args.scratch.now) ≡ c.args.n
-  marks_long = length-take-le c.args.n c.args.scratch.now (omega (arith, promise.few, c.if-scratch-lt-SCRATCH.false))
+  marks_long = length-take-le c.args.n c.args.scratch.now (omega (arith, promise.few))
 
   numbers_long : length {A = ℕ} (take c.args.n (replicate 256 0)) ≡ c.args.n
   numbers_long = length-take-le {A = ℕ} c.args.n (replicate 256 0) promise.few
@@ -61,12 +61,12 @@ module _ (c : After-number) (right : Promise c.args.n (edges_of c.args.edges.now
       ∙ ap (λ (m : ℕ). numbering m (edges_of c.args.edges.now c.args.edge_count)) long
 
   room : 512 ≤ length marked
-  room = omega (arith, length_front c.args.scratch.now c.number.new.marks c.args.n c.number.auto.marks, c.if-scratch-lt-SCRATCH.false)
+  room = omega (arith, length_front c.args.scratch.now c.number.new.marks c.args.n c.number.auto.marks)
 
   wiped : over (replicate 512 0) marked ≡ over (replicate 512 0) c.args.scratch.now
   wiped =
       zeroed 512 marked c.args.scratch.now
-      (behind 512 c.args.n c.number.new.marks c.args.scratch.now (omega (arith, right.few)) (omega (arith, right.few, c.if-scratch-lt-SCRATCH.false)) c.number.auto.marks)
+      (behind 512 c.args.n c.number.new.marks c.args.scratch.now (omega (arith, right.few)) (omega (arith, right.few)) c.number.auto.marks)
 
 pub returns-then-places-n : goal.returns-then-places-n
 returns-then-places-n c =
@@ -78,20 +78,15 @@ returns-then-edges-edge_count c =
     let e = left_short c.args.n c.args.edges.now c.args.edge_count c.args.places.now c.args.scratch.now (short_edges c.args.n c.args.edges.now c.args.edge_count c.args.places.now c.args.scratch.now c.if-places-n.false c.if-edges-edge_count.true) in
     record { result_value = e.0; places_after = e.1.0; scratch_after = e.1.1 }
 
-pub returns-then-scratch-lt-SCRATCH : goal.returns-then-scratch-lt-SCRATCH
-returns-then-scratch-lt-SCRATCH c =
-    let e = left_short c.args.n c.args.edges.now c.args.edge_count c.args.places.now c.args.scratch.now (short_scratch c.args.n c.args.edges.now c.args.edge_count c.args.places.now c.args.scratch.now c.if-places-n.false c.if-edges-edge_count.false c.if-scratch-lt-SCRATCH.true) in
-    record { result_value = e.0; places_after = e.1.0; scratch_after = e.1.1 }
-
 pub returns-then-refusal-ne0 : goal.returns-then-refusal-ne0
 returns-then-refusal-ne0 c =
     let e = left_refused c.args.n c.args.edges.now c.args.edge_count c.args.places.now c.args.scratch.now (enough (goal.at.returns-then-refusal-ne0 c).After-refused-refusal) c.clear_first.new.bytes
-    (enough_cleared 512 c.args.scratch.now c.clear_first.new.bytes c.if-scratch-lt-SCRATCH.false c.clear_first.ensures)
+    (enough_cleared 512 c.args.scratch.now c.clear_first.new.bytes (omega arith) c.clear_first.ensures)
     c.refused-refusal.result c.refused-refusal.ensures c.if-refusal-ne0.true in
     record { result_value = e.0; places_after = e.1.0; scratch_after = e.1.1 }
 
 pub slice_bounds-number-end : goal.slice_bounds-number-end
-slice_bounds-number-end c = omega (arith, (promise (goal.at.slice_bounds-number-end c).Else-refusal-ne0).few, c.if-scratch-lt-SCRATCH.false)
+slice_bounds-number-end c = omega (arith, (promise (goal.at.slice_bounds-number-end c).Else-refusal-ne0).few)
 
 pub slice_bounds-number-end-2 : goal.slice_bounds-number-end-2
 slice_bounds-number-end-2 c = sym (marks_long (goal.at.slice_bounds-number-end-2 c).Else-refusal-ne0)
