@@ -1,7 +1,7 @@
 // Whole buffers read and written over std's readers and writers, numbers written as text, and an argument's bytes: all in the room that the caller lends.
 #![tactic(auto)]
 
-ghost use Rattle.std.specs.Prelude.{◌≡◌, ◌≢◌, ◌<◌, ◌≤◌, ℕ, true, length, take, decimal, slice_index};
+ghost use Rattle.std.specs.Prelude.{◌≡◌, ◌≢◌, ◌<◌, ◌≤◌, ℕ, true, length, min, take, decimal, slice_index};
 ghost use Rattle.std.specs.Io.KnownBytes.{Appends, Consumes};
 ghost use Rattle.streams.specs.Fronts.{AppendsFront, eight_digits};
 
@@ -83,14 +83,16 @@ pub fn print_hex<W: Write>(out: &mut W, n: u32) -> bool
     }
 }
 
-// Where the line that begins at a place ends: at its newline, or at the end of the text.
+// Where the line that begins at a place ends: at its newline, or at the end of the text, also for a place past that end.
 pub fn line_end(text: &[u8], from: usize) -> usize
-    requires { from ≤ length text.now }
-    ensures low { from ≤ result }
+    ensures low { min from (length text.now) ≤ result }
     ensures high { result ≤ length text.now }
     ensures within { (k : ℕ) → from ≤ k → k < result → slice_index text.now k ≢ 10 }
     ensures newline { result < length text.now → slice_index text.now result ≡ 10 }
 {
+    if text.len() < from {
+        return text.len();
+    }
     match memchr(b'\n', &text[from..]) {
         Some(i) => from + i,
         None => text.len(),
