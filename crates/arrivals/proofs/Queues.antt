@@ -5,14 +5,14 @@ use mathlib.Core.Bool.{Bool, true, false}
 use Prim.Native.Nat.{ℕ, zero, suc, ◌+◌, ◌≤◌, ◌<◌, min}
 use native.Mathlib.Omega.{arith}
 use lib.Dec.{ltb}
-use lib.ListN.{length, get_or, take, set, replicate, length-append, length-replicate, length-take}
-use borrow.Author.Tests.{ltb-true, ltb-false}
-use lib.Seq.{set_out, take-append_seam, length-take-le, take-take, take_at, take_all}
+use lib.ListN.{length, get_or, take, drop, set, replicate, length-append, length-replicate, length-take}
+use borrow.Author.Tests.{lt-ltb, ltb-true, ltb-false}
+use lib.Seq.{take-append_seam, length-take-le, take-take, take_at, take_all}
 use Rattle.lists.specs.Lists.{keep, kept_if}
 use Rattle.lists.proofs.Loops.{take_step, keep_few}
 use Rattle.lists.proofs.Bools.{bool}
 use Rattle.arrivals.specs.declared.Listed.{Listed}
-use Rattle.arrivals.specs.Arrivals.{list_of, queue_places, Lists}
+use Rattle.arrivals.specs.Arrivals.{list_of, queue_places, pushed, Lists}
 
 take_zeros : (m k : ℕ) → m ≤ k → ◌≡◌ {A = List ℕ} (take m (replicate k 0)) (replicate m 0)
 take_zeros zero k h = refl
@@ -57,57 +57,11 @@ keep_snoc p (y ∷ xs) x = ap (kept_if (p y) y) (keep_snoc p xs x) ∙ kept_appe
 pub keep_more : (p : ℕ → Bool) (l : List ℕ) (i : ℕ) → i < length l → keep p (take (i + 1) l) ≡ keep p (take i l) ++ kept_if (p (get_or l i 0)) (get_or l i 0) []
 keep_more p l i h = ap (keep p) (take_step l i 0 h) ∙ keep_snoc p (take i l) (get_or l i 0)
 
--- THE LOOPS. A copy of the first places of a queue
-pub copy_more : (queue : List ℕ) (places : List ℕ) (i : ℕ) → i < length queue → i < 32 → places ≡ queue_places (take i queue)
-    → set places i (get_or queue i 0) ≡ queue_places (take (i + 1) queue)
-copy_more queue places i h g e =
-    let n : length (take i queue) ≡ i = length-take-le i queue (omega arith) in
-    ap (λ (t : List ℕ). set t i (get_or queue i 0)) e
-    ∙ ap (λ (k : ℕ). set (queue_places (take i queue)) k (get_or queue i 0)) (sym n)
-    ∙ places_push (take i queue) (get_or queue i 0) (omega arith)
-    ∙ ap queue_places (sym (take_step queue i 0 h))
-
--- those kept of the first places of a queue, and their count
-pub record Kept (p : ℕ → Bool) (queue places : List ℕ) (count i : ℕ) : Type 0 where
-  pub stored : places ≡ queue_places (keep p (take i queue))
-  pub counted : count ≡ length (keep p (take i queue))
-
-pub kept_start : (p : ℕ → Bool) (queue : List ℕ) → Kept p queue (queue_places []) 0 0
-unfolding keep
-kept_start p queue = record { stored = refl; counted = refl }
-
-pub kept_few : (p : ℕ → Bool) (queue places : List ℕ) (count i : ℕ) → i ≤ length queue → Kept p queue places count i → count ≤ i
-kept_few p queue places count i h k = omega (arith, k.counted, keep_few p (take i queue), length-take-le i queue h)
-
-module _ (p : ℕ → Bool) (queue places : List ℕ) (count i : ℕ) (h : i < length queue) (k : Kept p queue places count i) where
-  pub kept_yes : i < 32 → p (get_or queue i 0) ≡ true → Kept p queue (set places count (get_or queue i 0)) (count + 1) (i + 1)
-  kept_yes g e =
-      let more : keep p (take (i + 1) queue) ≡ keep p (take i queue) ++ (get_or queue i 0 ∷ [])
-      = keep_more p queue i h ∙ ap (λ (b : Bool). keep p (take i queue) ++ kept_if b (get_or queue i 0) []) e in
-      let few = kept_few p queue places count i (omega arith) k in
-      record {
-        stored =
-            ap (λ (n : ℕ). set places n (get_or queue i 0)) k.counted
-            ∙ ap (λ (t : List ℕ). set t (length (keep p (take i queue))) (get_or queue i 0)) k.stored
-            ∙ places_push (keep p (take i queue)) (get_or queue i 0) (omega (arith, few, k.counted))
-            ∙ ap queue_places (sym more);
-        counted = omega (arith, k.counted, ap length more, length-append (keep p (take i queue)) (get_or queue i 0 ∷ []));
-      }
-
-  pub kept_no : p (get_or queue i 0) ≡ false → Kept p queue places count (i + 1)
-  kept_no e =
-      let same : keep p (take (i + 1) queue) ≡ keep p (take i queue)
-      = keep_more p queue i h ∙ ap (λ (b : Bool). keep p (take i queue) ++ kept_if b (get_or queue i 0) []) e ∙ append-nil (keep p (take i queue)) in
-      record { stored = k.stored ∙ ap queue_places (sym same); counted = k.counted ∙ ap length (sym same) }
-
--- a party goes last, or nowhere where the list is full
-pub places_last : (l : List ℕ) (x : ℕ) → length l ≤ 32 → set (queue_places l) (length l) x ≡ queue_places (l ++ (x ∷ []))
-places_last l x h =
-    bool (ltb (length l) 32)
-    (λ e. places_push l x (ltb-true (length l) 32 e))
-    (λ e.
-    let g : 32 ≤ length l = ltb-false (length l) 32 e in
-    set_out (queue_places l) (length l) x (omega (arith, places_length l)) ∙ places_full l x (omega arith))
+-- a list and the zeros behind it
+zeros_behind : (l : List ℕ) (n k : ℕ) → length l ≤ n → n ≤ k → take n (l ++ replicate k 0) ≡ l ++ drop (length l) (replicate n 0)
+zeros_behind [] n k h g = take_zeros n k g
+zeros_behind (x ∷ l) zero k h g = absurd (omega arith)
+zeros_behind (x ∷ l) (suc n) k h g = ap (x ∷◌) (zeros_behind l n k (omega arith) (omega arith))
 
 -- what is taken of the places is not more than there are
 pub cut_take : (places : List ℕ) (count k : ℕ) → length places ≡ 32 → k ≡ min count 32 → take k places ≡ take count places
@@ -115,6 +69,43 @@ cut_take places count k long e =
     bool (ltb count 32)
     (λ h. let few : count < 32 = ltb-true count 32 h in let same : k ≡ count = omega arith in ap (λ (i : ℕ). take i places) same)
     (λ h. let many : 32 ≤ count = ltb-false count 32 h in take_all k places (omega arith) ∙ sym (take_all count places (omega arith)))
+
+-- the first places, copied over zeros
+pub places_copied : (places : List ℕ) (count n : ℕ) → length places ≡ 32 → n ≡ min count 32 → take n places ++ drop n (replicate 32 0) ≡ queue_places (take count places)
+places_copied places count n long e =
+    let same : length (take n places) ≡ n = length-take-le n places (omega arith) in
+    ap (λ (k : ℕ). take n places ++ drop k (replicate 32 0)) (sym same)
+    ∙ sym (zeros_behind (take n places) 32 32 (omega arith) (omega arith))
+    ∙ ap queue_places (cut_take places count n long e)
+
+-- ONE PARTY MORE in an arrival list that has a place left
+pub lists_push : (r : Listed) (list : List ℕ) (x : ℕ) → length list < 32 → Lists r list → Lists (pushed r x) (list ++ (x ∷ []))
+lists_push r list x h (p, q) =
+    let free : ltb r.count 32 ≡ true = lt-ltb r.count 32 (omega arith) in
+    rw free (ap (λ (k : ℕ). set r.places k x) q ∙ ap (λ (t : List ℕ). set t (length list) x) p ∙ places_push list x h, omega (arith, q, length-append list (x ∷ [])))
+
+pub push_count : (r : Listed) (x : ℕ) → r.count < 32 → (pushed r x).count ≡ r.count + 1
+push_count r x h = rw (lt-ltb r.count 32 h) refl
+
+-- those kept of the first parties of a list, and of one more
+module _ (p : ℕ → Bool) (l : List ℕ) (r : Listed) (i : ℕ) (h : i < length l) (few : length l ≤ 32) (k : Lists r (keep p (take i l))) where
+  pub kept_yes : p (get_or l i 0) ≡ true → Lists (pushed r (get_or l i 0)) (keep p (take (i + 1) l))
+  kept_yes e =
+      rw (keep_more p l i h, e) (lists_push r (keep p (take i l)) (get_or l i 0) (omega (arith, keep_few p (take i l), length-take-le i l (omega arith))) k)
+
+  pub kept_no : p (get_or l i 0) ≡ false → Lists r (keep p (take (i + 1) l))
+  kept_no e = rw (keep_more p l i h, e, append-nil (keep p (take i l))) k
+
+-- a party last in a list whose places are tidy, or nowhere where the list is full
+pub last_pushed : (list : Listed) (x : ℕ) → length list.places ≡ 32
+    → (pushed (record { places = queue_places (list_of list); count = list.count }) x).places ≡ queue_places (list_of list ++ (x ∷ []))
+last_pushed list x long =
+    bool (ltb list.count 32)
+    (λ e. let few : list.count < 32 = ltb-true list.count 32 e in
+    let same : length (list_of list) ≡ list.count = length-take-le list.count list.places (omega arith) in
+    rw e (ap (λ (k : ℕ). set (queue_places (list_of list)) k x) (sym same) ∙ places_push (list_of list) x (omega arith)))
+    (λ e. let many : 32 ≤ list.count = ltb-false list.count 32 e in
+    rw e (places_full (list_of list) x (ap length (take_all list.count list.places (omega arith)) ∙ long)))
 
 -- those kept of an arrival list are no more than it has places
 pub kept_places : (p : ℕ → Bool) (places : List ℕ) (count : ℕ) → length places ≡ 32 → length (keep p (take count places)) ≤ 32

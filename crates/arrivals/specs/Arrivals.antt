@@ -1,5 +1,5 @@
 -- Arrival order: the places of an arrival list, and the parties that they list. Assumes nothing.
-use Rattle.std.specs.Prelude.{◌≡◌, List, ◌++◌, ℕ, length, get_or, take, replicate}
+use Rattle.std.specs.Prelude.{◌≡◌, List, [], ◌++◌, cond, ℕ, ◌+◌, ltb, length, get_or, set, take, replicate}
 use Rattle.arrivals.specs.declared.Listed.{Listed}
 
 -- the party at a place of the arrival list; past its end stands 0
@@ -17,3 +17,11 @@ queue_places list = take 32 (list ++ replicate 32 0)
 -- the list stands at the first places of a struct, and is counted there
 abbrev pub Lists : Listed → List ℕ → Type 0
 Lists r list = (r.places ≡ queue_places list) × (r.count ≡ length list)
+
+-- a list of nobody
+abbrev pub nobody : Listed
+nobody = record { places = queue_places []; count = 0 }
+
+-- the list with a party last, where a place is left for it
+abbrev pub pushed : Listed → ℕ → Listed
+pushed list party = cond (ltb list.count 32) (record { places = set list.places list.count party; count = list.count + 1 }) list

@@ -9,8 +9,7 @@ use lib.Dec.{eqb, leb, ltb, eqb-zero-suc, eqb-suc-zero}
 use Rattle.lists.specs.Lists.{every}
 use Rattle.lists.proofs.Bools.{bool}
 use Rattle.octets.specs.Bytes.{byte, zero_from, zero_between}
-use Rattle.blocks.specs.declared.ReadStage.{ReadStage}
-use Rattle.blocks.specs.Record.{kind_of, size_in, value_node_in, value_in, enter_right, value_right, reached, faulty, Place, among_values, among_steps, Kind, kinds, row_in, record_right}
+use Rattle.blocks.specs.Record.{ReadStage, kind_of, size_in, value_node_in, value_in, enter_right, value_right, reached, faulty, Place, among_values, among_steps, Kind, kinds, row_in, record_right}
 use Rattle.blocks.specs.Block.{placed, after_record}
 use Rattle.blocks.proofs.Rows.{right_at, past_rows, among_steps_law}
 

@@ -13,8 +13,7 @@ use Rattle.lists.specs.Lists.{over, Below}
 use Rattle.lists.specs.Answer.{done, refused, answer_of}
 use Rattle.lists.proofs.Bools.{bool, or_left, or_right}
 use Rattle.lists.proofs.Refusals.{refusal_none}
-use Rattle.blocks.specs.declared.ReadStage.{ReadStage}
-use Rattle.blocks.specs.Record.{begun, record_right}
+use Rattle.blocks.specs.Record.{ReadStage, begun, record_right}
 use Rattle.blocks.specs.Block.{after_record, after_records, block_of}
 use Rattle.blocks.specs.File.{after_blocks, records_of, blocks_of, whole_blocks, file_stage, file_records, not_blocks, read_refusal}
 use Rattle.blocks.specs.File.{FileResult, read_file, blocks_for, file_of, records_wrong, write_refusal, write_file}

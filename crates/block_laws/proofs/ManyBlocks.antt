@@ -9,7 +9,7 @@ use lib.Dec.{eqb, eqb-suc-zero}
 use lib.ListN.{length, take, drop, length-append, length-drop, length-take, take-append-drop, drop_of_length-le}
 use lib.Seq.{length-take-le, take_at, drop_at, take_all}
 use Rattle.lists.specs.Lists.{Below}
-use Rattle.blocks.specs.declared.ReadStage.{ReadStage}
+use Rattle.blocks.specs.Record.{ReadStage}
 use Rattle.blocks.specs.Block.{count_in, after_records, after_block, records_in, block_of}
 use Rattle.blocks.specs.File.{after_blocks, records_of, blocks_of}
 use Rattle.blocks.proofs.Stages.{Good, first_good}

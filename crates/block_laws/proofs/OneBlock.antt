@@ -11,7 +11,7 @@ use lib.Seq.{take-take, drop-drop, length-take-le, take_at, drop_at}
 use Rattle.lists.specs.Lists.{every, Below}
 use Rattle.octets.specs.Fletcher.{fletcher}
 use Rattle.octets.specs.Bytes.{number4, bytes2, bytes4, zero_from}
-use Rattle.blocks.specs.declared.ReadStage.{ReadStage}
+use Rattle.blocks.specs.Record.{ReadStage}
 use Rattle.blocks.specs.Block.{after_records, count_in, check_in, count_right, head_right, after_block, records_in, block_body, block_of}
 use Rattle.blocks.proofs.Stages.{Head, Good}
 use Rattle.blocks.proofs.Making.{length_body}

@@ -1,6 +1,5 @@
 -- What the round trips rest on: runs of zeros, stages over records, numbers in bytes, the size of the check. Assumes nothing.
 use mathlib.Core.Path.{◌≡◌, refl, sym, ap, ◌∙◌}
-use mathlib.Core.Logic.{◌≢◌}
 use mathlib.Core.Bool.{true}
 use mathlib.Core.List.{List, [], ◌∷◌, ◌++◌}
 use Prim.Native.Nat.{ℕ, zero, suc, ◌+◌, ◌*◌, ◌/◌, ◌%◌, ◌^◌, ◌<◌, ◌≤◌}
@@ -14,10 +13,9 @@ use Rattle.lists.specs.Lists.{every, Below}
 use Rattle.lists.proofs.Bools.{bool, and_left, and_right}
 use Rattle.octets.specs.Fletcher.{words, sums, fletcher}
 use Rattle.octets.specs.Bytes.{number4, bytes2, bytes4}
-use Rattle.blocks.specs.declared.ReadStage.{ReadStage}
-use Rattle.blocks.specs.Record.{begun}
+use Rattle.blocks.specs.Record.{ReadStage, begun}
 use Rattle.blocks.specs.Block.{after_record, after_records}
-use Rattle.blocks.proofs.Rows.{after_stays}
+use Rattle.blocks.proofs.Stages.{records_stuck}
 
 -- ZEROS. A run of zero bytes is so many zeros, and the other way round
 pub zeros_are : (s : List ℕ) → every (eqb 0) s ≡ true → s ≡ replicate (length s) 0
@@ -62,13 +60,7 @@ records_append (suc n) m t c d h =
     ∙ ap (λ (l : List ℕ). after_records (after_record t (take 16 c)) (n + m) l) (drop-append-le 16 c d room)
     ∙ records_append n m (after_record t (take 16 c)) (drop 16 c) d less
 
--- a refusal stays
-pub records_stuck : (n : ℕ) (t : ReadStage) (s : List ℕ) → t.wrong ≢ 0 → after_records t n s ≡ t
-unfolding after_records
-records_stuck zero t s h = refl
-records_stuck (suc n) t s h = rw (after_stays t (take 16 s) h) (records_stuck n t (drop 16 s) h)
-
--- so a stage that leads to none is none
+-- a refusal stays, so a stage that leads to none is none
 pub records_before : (n : ℕ) (t : ReadStage) (s : List ℕ) → (after_records t n s).wrong ≡ 0 → t.wrong ≡ 0
 records_before n t s h =
     bool (eqb t.wrong 0)

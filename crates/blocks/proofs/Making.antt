@@ -15,7 +15,7 @@ use Rattle.octets.specs.Bytes.{bytes2, bytes4}
 use Rattle.blocks.specs.Block.{block_body, block_of}
 use Rattle.blocks.specs.File.{blocks_of}
 use Rattle.octets.specs.Writes.{over_at, put_at}
-use Rattle.octets.proofs.Writes.{over_over, over_none, over_first, length_over, part_back, put_put, put_front, put_all}
+use Rattle.octets.proofs.Writes.{over_over, over_none, over_first, part_back, put_put, put_front, put_all}
 
 pub length_body : (number : ℕ) (records : List ℕ) → length records ≤ 496 → length (block_body number records) ≡ 508
 unfolding block_body
@@ -138,6 +138,3 @@ module _ (d r : List ℕ) (k i : ℕ) {to : ℕ} {ys : List ℕ} (h : i < k) (ro
   make_turn =
       ap (λ (t : List ℕ). over_at (512 * (i + 1)) (blocks_of (k - (i + 1)) (i + 1) (drop (496 * (i + 1)) r)) t) back
       ∙ make_step d r k i h fits (length_block i (take 496 (drop (496 * i) r)) few)
-
-  pub make_length : length (take (512 * i) d ++ (ys ++ drop (512 * i + 512 - 512 * i) (drop (512 * i) d))) ≡ length d
-  make_length = ap length back ∙ length_over d (512 * i) (block_of i (take 496 (drop (496 * i) r))) fits

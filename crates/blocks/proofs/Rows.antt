@@ -3,12 +3,17 @@ use mathlib.Core.Path.{◌≡◌, refl, ap, subst, ◌∙◌}
 use mathlib.Core.Logic.{◌≢◌}
 use mathlib.Core.Bool.{Bool, true, false, cond}
 use mathlib.Core.List.{List, [], ◌∷◌, ◌++◌, append-nil}
-use Prim.Native.Nat.{ℕ, zero, suc}
+use Prim.Native.Nat.{ℕ, zero, suc, ◌≤◌}
+use native.Mathlib.Omega.{arith}
+use Rattle.std.specs.Prelude.{None}
+use Rattle.std.proofs.Common.{lit≤}
+use Rattle.blocks.specs.declared.RecordKind.{RecordKind}
+use Rattle.blocks.specs.declared.RecordKind.TheVariants.{Size, Edge, Enter, Get, Put, Leave, Add, Value}
+use Rattle.blocks.specs.Inner.{kind_number, Named}
 use borrow.Author.Tests.{ne_eqb}
 use lib.Dec.{eqb}
 use lib.ListN.{take, drop}
-use Rattle.blocks.specs.declared.ReadStage.{ReadStage}
-use Rattle.blocks.specs.Record.{kind_of, faulty, Place, at_first, among_edges, among_values, among_steps, Kind, kinds, row_in, row_of, record_right}
+use Rattle.blocks.specs.Record.{ReadStage, kind_of, faulty, Place, at_first, among_edges, among_values, among_steps, Kind, kinds, row_in, row_of, record_right}
 use Rattle.blocks.specs.Block.{placed, after_record}
 
 -- the rows are of other kinds
@@ -27,6 +32,19 @@ past_rows (suc n) (k ∷ ks) kind others = rw (ne_eqb kind k.number others.0) (p
 pub right_at : (r : List ℕ) {kind : ℕ} → kind_of r ≡ kind → record_right r ≡ (row_in kinds kind).right r
 unfolding record_right
 right_at r e = ap (λ (kind : ℕ). (row_in kinds kind).right r) e
+
+-- no record of a number that is no kind's is right
+pub no_kind : (r : List ℕ) → Named None (kind_of r) → record_right r ≡ false
+unfolding kinds row_in
+no_kind r none =
+    let n : ℕ = kind_of r in
+    right_at r refl
+    ∙ ap (λ (k : Kind). k.right r)
+    (past_rows 8 kinds n
+    (other 1 (lit≤ tt) (lit≤ tt), (other 2 (lit≤ tt) (lit≤ tt), (other 3 (lit≤ tt) (lit≤ tt), (other 4 (lit≤ tt) (lit≤ tt), (other 5 (lit≤ tt) (lit≤ tt), (other 6 (lit≤ tt) (lit≤ tt), (other 7 (lit≤ tt) (lit≤ tt), (other 8 (lit≤ tt) (lit≤ tt), tt)))))))))
+  where
+    other : (k : ℕ) → 1 ≤ k → k ≤ 8 → kind_of r ≡ k → ⊥
+    other k low high e = omega (arith, none)
 
 pub after_at : (t : ReadStage) (r : List ℕ) {kind : ℕ} → t.wrong ≡ 0 → record_right r ≡ true → kind_of r ≡ kind → after_record t r ≡ placed (row_in kinds kind).place t r
 unfolding after_record
@@ -82,3 +100,13 @@ among_steps_law kind size edge value =
     ap (λ (k : Kind). k.place) (past_rows 2 kinds kind (size, (edge, tt)))
     ∙ rows_then (λ (p : Place). p ≡ among_steps) (take 5 (drop 2 kinds)) (drop 7 kinds) (refl, (refl, (refl, (refl, (refl, tt))))) kind
     (ap (λ (k : Kind). k.place) (past_rows 1 (drop 7 kinds) kind (value, tt)))
+
+pub among_steps_kind : (kind : RecordKind) (n : ℕ) → n ≡ kind_number kind → (kind ≡ Size → ⊥) → (kind ≡ Edge → ⊥) → (kind ≡ Value → ⊥) → (row_in kinds n).place ≡ among_steps
+among_steps_kind Size n e size edge value = absurd (size refl)
+among_steps_kind Edge n e size edge value = absurd (edge refl)
+among_steps_kind Value n e size edge value = absurd (value refl)
+among_steps_kind Enter n e size edge value = among_steps_law n (λ h. omega (arith, e, h)) (λ h. omega (arith, e, h)) (λ h. omega (arith, e, h))
+among_steps_kind Get n e size edge value = among_steps_law n (λ h. omega (arith, e, h)) (λ h. omega (arith, e, h)) (λ h. omega (arith, e, h))
+among_steps_kind Put n e size edge value = among_steps_law n (λ h. omega (arith, e, h)) (λ h. omega (arith, e, h)) (λ h. omega (arith, e, h))
+among_steps_kind Leave n e size edge value = among_steps_law n (λ h. omega (arith, e, h)) (λ h. omega (arith, e, h)) (λ h. omega (arith, e, h))
+among_steps_kind Add n e size edge value = among_steps_law n (λ h. omega (arith, e, h)) (λ h. omega (arith, e, h)) (λ h. omega (arith, e, h))

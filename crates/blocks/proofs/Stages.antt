@@ -1,57 +1,93 @@
 -- The stage after records and after blocks, one by one, and what an accepted block says. Assumes nothing.
-use mathlib.Core.Path.{◌≡◌, refl, sym, ap, ◌∙◌}
+use mathlib.Core.Path.{◌≡◌, refl, sym, ap, ap₂, subst, ◌∙◌}
+use mathlib.Core.Logic.{◌≢◌}
+use Rattle.std.specs.Prelude.{Err}
+use Rattle.refusals.specs.declared.Refusal.{Refusal}
 use mathlib.Core.Bool.{Bool, true, false, cond, ◌&&◌, ◌||◌}
-use mathlib.Core.List.{List}
-use Prim.Native.Nat.{ℕ, zero, suc, ◌+◌, ◌*◌, ◌-◌, ◌<◌, ◌≤◌}
+use mathlib.Core.List.{List, ◌++◌}
+use Prim.Native.Nat.{ℕ, zero, suc, ◌+◌, ◌*◌, ◌-◌, ◌/◌, ◌<◌, ◌≤◌}
 use native.Mathlib.Numerals.{add-one}
 use native.Mathlib.Omega.{arith}
-use borrow.Author.Tests.{leb-true, eqb-true, eqb-false}
+use borrow.Author.Tests.{leb-true, eqb-true, eqb-false, eq-eqb, ne_eqb}
 use lib.Dec.{eqb, leb}
-use lib.ListN.{length, take, drop, length-drop}
-use lib.Seq.{drop-drop, take_all}
+use lib.ListN.{length, take, drop, length-drop, length-append}
+use lib.Seq.{drop-drop, take_all, take-take, take_at, drop_at}
+use Rattle.std.proofs.lemmas.List.{drop-take}
 use Rattle.lists.proofs.Bools.{bool, and_left, and_right}
 use Rattle.octets.specs.Bytes.{number2, zero_between}
 use Rattle.octets.specs.Fletcher.{fletcher}
-use Rattle.blocks.specs.declared.ReadStage.{ReadStage}
-use Rattle.blocks.specs.Record.{kind_of, begun, faulty, Place, at_first, among_edges, among_values, among_steps, record_right}
+use Rattle.blocks.specs.Record.{ReadStage, kind_of, begun, faulty, Place, at_first, among_edges, among_values, among_steps, record_right}
 use Rattle.blocks.specs.Block.{placed, after_record, after_records, number_in, count_in, check_in, count_right, head_right, after_block}
 use Rattle.blocks.specs.File.{after_blocks}
-use Rattle.blocks.proofs.Rows.{by_place}
+use Rattle.blocks.specs.Inner.{Reads}
+use Rattle.blocks.proofs.Rows.{after_stays, by_place}
 
--- the records of a block, one by one
-pub start_records : (s : List ℕ) (t : ReadStage) (n : ℕ) → after_records t (n - 0) s ≡ after_records t n s
-start_records s t n = let z : n - 0 ≡ n = omega arith in rw z
-
-pub step_records_law : (s : List ℕ) (t : ReadStage) (n i : ℕ) {u : ReadStage} → i < n → u ≡ after_record t (take (16 * i + 16 - 16 * i) (drop (16 * i) s))
-    → after_records u (n - (i + 1)) (drop (16 * (i + 1)) s) ≡ after_records t (n - i) (drop (16 * i) s)
+-- THE RECORDS of a block, one by one. They are so many bytes from the front
+pub front_records : (n : ℕ) (t : ReadStage) (s : List ℕ) → 16 * n ≤ length s → after_records t n (take (16 * n) s) ≡ after_records t n s
 unfolding after_records
-step_records_law s t n i h e =
-    let m : n - i ≡ suc (n - (i + 1)) = omega arith in
-    let w : 16 * i + 16 - 16 * i ≡ 16 = omega arith in
-    let d : 16 * (i + 1) ≡ 16 * i + 16 = omega arith in
-    rw (e, w, m, d, ← drop-drop 16 (16 * i) s)
+front_records zero t s h = refl
+front_records (suc n) t s h =
+    let k : 16 * suc n ≡ 16 + 16 * n = omega arith in
+    rw (k, take-take 16 (16 + 16 * n) s (omega arith), drop-take 16 (16 * n) s) (front_records n (after_record t (take 16 s)) (drop 16 s) (omega (arith, length-drop 16 s)))
 
-pub end_records : (s : List ℕ) (t : ReadStage) (n i : ℕ) → n ≤ i → t ≡ after_records t (n - i) (drop (16 * i) s)
+-- the first of those left, and the others
+pub turn_records : (t : ReadStage) (r rest : List ℕ) {left : List ℕ} → left ≡ r ++ rest → length r ≡ 16 → after_records t (length left / 16) left ≡ after_records (after_record t r) (length rest / 16) rest
 unfolding after_records
-end_records s t n i h = let z : n - i ≡ 0 = omega arith in rw z
+turn_records t r rest {left} e h =
+    let more : length left / 16 ≡ suc (length rest / 16) = omega (arith, ap length e, length-append r rest) in
+    ap (λ (k : ℕ). after_records t k left) more
+    ∙ ap (λ (l : List ℕ). after_records (after_record t (take 16 l)) (length rest / 16) (drop 16 l)) e
+    ∙ ap₂ (λ (a b : List ℕ). after_records (after_record t a) (length rest / 16) b) (take_at r rest 16 h) (drop_at r rest 16 h)
 
--- the blocks of a file, one by one
-pub start_blocks : (s : List ℕ) (k : ℕ) → after_blocks (k - 0) 0 begun s ≡ after_blocks k 0 begun s
-start_blocks s k = let z : k - 0 ≡ k = omega arith in rw z
+-- and none
+pub end_records : (t : ReadStage) (left : List ℕ) → length left < 16 → after_records t (length left / 16) left ≡ t
+unfolding after_records
+end_records t left h = let none : length left / 16 ≡ 0 = omega arith in ap (λ (k : ℕ). after_records t k left) none
+
+-- a refusal stays
+pub records_stuck : (n : ℕ) (t : ReadStage) (s : List ℕ) → t.wrong ≢ 0 → after_records t n s ≡ t
+unfolding after_records
+records_stuck zero t s h = refl
+records_stuck (suc n) t s h = rw (after_stays t (take 16 s) h) (records_stuck n t (drop 16 s) h)
+
+-- so a record that is refused is the last that is read
+pub stop_records : (t : ReadStage) (n : ℕ) (s : List ℕ) (k : Refusal) {whole : ReadStage} → Reads (Err k) t → after_records t n s ≡ whole → Reads (Err k) whole
+stop_records t n s k refuses is = subst (λ (x : ReadStage). Reads (Err k) x) (sym (records_stuck n t s (λ z. omega (arith, z, refuses.1))) ∙ is) refuses
+
+-- the blocks of a file, one by one: the last of k
+last_block : (k i : ℕ) → i < k → eqb (i + 1) k ≡ eqb (k - (i + 1)) 0
+last_block k i h =
+    bool (eqb (i + 1) k)
+    (λ e. let z : k - (i + 1) ≡ 0 = omega (arith, eqb-true _ _ e) in e ∙ sym (eq-eqb _ _ z))
+    (λ e. e ∙ sym (ne_eqb (k - (i + 1)) 0 (λ z. eqb-false _ _ e (omega (arith, z)))))
 
 pub step_blocks : (s : List ℕ) (t : ReadStage) (k i : ℕ) {u : ReadStage} → i < k
-    → u ≡ after_block i (eqb (k - (i + 1)) 0) t (take (512 * i + 512 - 512 * i) (drop (512 * i) s))
+    → u ≡ after_block i (eqb (i + 1) k) t (take (512 * i + 512 - 512 * i) (drop (512 * i) s))
     → after_blocks (k - (i + 1)) (i + 1) u (drop (512 * (i + 1)) s) ≡ after_blocks (k - i) i t (drop (512 * i) s)
 unfolding after_blocks
 step_blocks s t k i h e =
     let m : k - i ≡ suc (k - (i + 1)) = omega arith in
     let w : 512 * i + 512 - 512 * i ≡ 512 = omega arith in
     let d : 512 * (i + 1) ≡ 512 * i + 512 = omega arith in
-    rw (e, w, m, d, add-one, ← drop-drop 512 (512 * i) s)
+    rw (e, last_block k i h, w, m, d, add-one, ← drop-drop 512 (512 * i) s)
 
 pub end_blocks : (s : List ℕ) (t : ReadStage) (k i : ℕ) → k ≤ i → t ≡ after_blocks (k - i) i t (drop (512 * i) s)
 unfolding after_blocks
 end_blocks s t k i h = let z : k - i ≡ 0 = omega arith in rw z
+
+-- a block whose check differs, one whose head is wrong, and any other
+module _ (number : ℕ) (last : Bool) (t : ReadStage) (b : List ℕ) (fine : t.wrong ≡ 0) where
+  pub block_differs : check_in b ≢ fletcher (take 508 b) → after_block number last t b ≡ faulty 3 t
+  unfolding after_block
+  block_differs h = simp (fine, ne_eqb _ _ h)
+
+  pub block_malformed : check_in b ≡ fletcher (take 508 b) → head_right number last b ≡ false → after_block number last t b ≡ faulty 4 t
+  unfolding after_block
+  block_malformed check h = simp (fine, eq-eqb _ _ check, h)
+
+  pub block_goes : check_in b ≡ fletcher (take 508 b) → head_right number last b ≡ true → after_block number last t b ≡ after_records t (count_in b) (drop 8 b)
+  unfolding after_block
+  block_goes check h = simp (fine, eq-eqb _ _ check, h)
 
 -- what a right head says
 pub record Head (number : ℕ) (last : Bool) (b : List ℕ) : Type 0 where
@@ -110,6 +146,14 @@ unfolding after_blocks
 blocks_stuck zero number t s h = refl
 blocks_stuck (suc k) number t s h = rw (block_stuck number (eqb k 0) t (take 512 s) h) (blocks_stuck k (suc number) t (drop 512 s) h)
 
+-- so a block that is refused is the last that is read
+pub stop_blocks : (s : List ℕ) (t : ReadStage) (n i : ℕ) (k : Refusal) {whole : ReadStage} → i < n
+    → Reads (Err k) (after_block i (eqb (i + 1) n) t (take (512 * i + 512 - 512 * i) (drop (512 * i) s))) → after_blocks (n - i) i t (drop (512 * i) s) ≡ whole → Reads (Err k) whole
+stop_blocks s t n i k h refuses is =
+    let u : ReadStage = after_block i (eqb (i + 1) n) t (take (512 * i + 512 - 512 * i) (drop (512 * i) s)) in
+    let stays = blocks_stuck (n - (i + 1)) (i + 1) u (drop (512 * (i + 1)) s) (ne_eqb u.wrong 0 (λ z. omega (arith, z, refuses.1))) in
+    subst (λ (x : ReadStage). Reads (Err k) x) (sym stays ∙ step_blocks s t n i h refl ∙ is) refuses
+
 -- so a stage that leads to none is none
 pub blocks_before : (k number : ℕ) (t : ReadStage) (s : List ℕ) → (after_blocks k number t s).wrong ≡ 0 → t.wrong ≡ 0
 blocks_before k number t s h =
@@ -146,34 +190,47 @@ known_if : (b : Bool) (t u : ReadStage) → Known t → Known u → Known (cond 
 known_if true t u p q = p
 known_if false t u p q = q
 
-record_known : (t : ReadStage) (r : List ℕ) → Known t → Known (after_record t r)
+-- a record may be refused with 4 only
+abbrev Four : ReadStage → Type 0
+Four t = (t.wrong ≡ 0 → ⊥) → t.wrong ≡ 4
+
+four_if : (b : Bool) (t u : ReadStage) → Four t → Four u → Four (cond b t u)
+four_if true t u p q = p
+four_if false t u p q = q
+
+record_four : (t : ReadStage) (r : List ℕ) → Four t → Four (after_record t r)
 unfolding after_record
-record_known t r h =
-    known_if (eqb t.wrong 0) _ t
-    (known_if (record_right r) _ (faulty 4 t)
-    (by_place (λ (p : Place). Known (placed p t r)) (in_place at_first refl) (in_place among_edges refl) (in_place among_values refl) (in_place among_steps refl) (kind_of r))
+record_four t r h =
+    four_if (eqb t.wrong 0) _ t
+    (four_if (record_right r) _ (faulty 4 t)
+    (by_place (λ (p : Place). Four (placed p t r)) (in_place at_first refl) (in_place among_edges refl) (in_place among_values refl) (in_place among_steps refl) (kind_of r))
     four)
     h
   where
-    four : Known (faulty 4 t)
-    four u e Some-of three = e
+    four : Four (faulty 4 t)
+    four Some-of = refl
 
-    in_place : (p : Place) → (p.leads t r).wrong ≡ 0 → Known (placed p t r)
-    in_place p z = known_if (p.follows t r) (p.leads t r) (faulty 4 t) (none_known (p.leads t r) z) four
+    in_place : (p : Place) → (p.leads t r).wrong ≡ 0 → Four (placed p t r)
+    in_place p z = four_if (p.follows t r) (p.leads t r) (faulty 4 t) (λ Some-of. absurd (Some-of z)) four
 
-records_known : (n : ℕ) (t : ReadStage) (s : List ℕ) → Known t → Known (after_records t n s)
+pub records_four : (n : ℕ) (t : ReadStage) (s : List ℕ) → Four t → Four (after_records t n s)
 unfolding after_records
-records_known zero t s h = h
-records_known (suc n) t s h = records_known n (after_record t (take 16 s)) (drop 16 s) (record_known t (take 16 s) h)
+records_four zero t s h = h
+records_four (suc n) t s h = records_four n (after_record t (take 16 s)) (drop 16 s) (record_four t (take 16 s) h)
+
+records_known : (n : ℕ) (t : ReadStage) (s : List ℕ) → t.wrong ≡ 0 → Known (after_records t n s)
+records_known n t s z u e Some-of three = e ∙ records_four n t s (λ h. absurd (h z)) (λ w. Some-of (e ∙ w))
 
 block_known : (number : ℕ) (last : Bool) (t : ReadStage) (b : List ℕ) → Known t → Known (after_block number last t b)
 unfolding after_block
-block_known number last t b h =
-    known_if (eqb t.wrong 0) _ t
-    (known_if (eqb (check_in b) (fletcher (take 508 b))) _ (faulty 3 t)
-    (known_if (head_right number last b) (after_records t (count_in b) (drop 8 b)) (faulty 4 t) (records_known (count_in b) t (drop 8 b) h) (λ u e Some-of three. e))
-    (λ u e Some-of three. absurd (three e)))
-    h
+block_known number last t b h = by (eqb t.wrong 0) refl
+  where
+    by : (x : Bool) → eqb t.wrong 0 ≡ x → Known (cond x (cond (eqb (check_in b) (fletcher (take 508 b))) (cond (head_right number last b) (after_records t (count_in b) (drop 8 b)) (faulty 4 t)) (faulty 3 t)) t)
+    by true e =
+        known_if (eqb (check_in b) (fletcher (take 508 b))) _ (faulty 3 t)
+        (known_if (head_right number last b) (after_records t (count_in b) (drop 8 b)) (faulty 4 t) (records_known (count_in b) t (drop 8 b) (eqb-true t.wrong 0 e)) (λ u e Some-of three. e))
+        (λ u e Some-of three. absurd (three e))
+    by false e = h
 
 pub blocks_known : (k number : ℕ) (t : ReadStage) (s : List ℕ) → Known t → Known (after_blocks k number t s)
 unfolding after_blocks

@@ -3,8 +3,7 @@
 use Rattle.std.specs.Prelude.{Bool, cond, ◌&&◌, ◌||◌, List, [], ◌∷◌, ◌++◌, ℕ, zero, suc, ◌+◌, ◌*◌, ◌-◌, ◌/◌, length, take, drop, replicate, eqb, leb}
 use Rattle.octets.specs.Bytes.{number2, number4, bytes2, bytes4, zero_between}
 use Rattle.octets.specs.Fletcher.{fletcher}
-use Rattle.blocks.specs.declared.ReadStage.{ReadStage}
-use Rattle.blocks.specs.Record.{faulty, Place, row_of, record_right}
+use Rattle.blocks.specs.Record.{ReadStage, faulty, Place, row_of, record_right}
 
 -- the stage after a record that is right, by its place: 4 where it may not come
 abbrev pub placed : Place → ReadStage → List ℕ → ReadStage

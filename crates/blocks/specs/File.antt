@@ -1,14 +1,9 @@
 -- A file of 1 to 128 blocks: what reading and writing answer, and what they leave in the room that they are lent. Assumes nothing.
 use Rattle.std.specs.Prelude.{Bool, not, ◌&&◌, ◌||◌, List, [], ◌∷◌, ◌++◌, ℕ, zero, suc, ◌+◌, ◌*◌, ◌/◌, ◌%◌, length, take, drop, eqb, leb, ltb}
 use Rattle.std.proofs.Math.Option.{Option}
-use Rattle.lists.specs.Answer.{Answer, done, refused, Check, ◌when◌, refusal, answer_of, room_after}
-use Rattle.blocks.specs.declared.ReadStage.{ReadStage}
-use Rattle.blocks.specs.Record.{begun}
+use Rattle.lists.specs.Answer.{Answer, Check, ◌when◌, refusal, answer_of, room_after}
+use Rattle.blocks.specs.Record.{ReadStage, begun}
 use Rattle.blocks.specs.Block.{after_records, after_block, records_in, block_of}
-use Rattle.blocks.specs.declared.ReadAnswer.{ReadAnswer}
-use Rattle.blocks.specs.declared.ReadAnswer.TheVariants.{Records, Refused as ReadRefused}
-use Rattle.blocks.specs.declared.WriteAnswer.{WriteAnswer}
-use Rattle.blocks.specs.declared.WriteAnswer.TheVariants.{Blocks, Refused as WriteRefused}
 
 -- READING. The stage after k blocks, numbered from `number`; the last of them is the file's last
 unfoldable pub after_blocks : ℕ → ℕ → ReadStage → List ℕ → ReadStage
@@ -90,13 +85,3 @@ write_refusal records count room =
 -- writing: the count of blocks, and their bytes
 unfoldable pub write_file : List ℕ → ℕ → List ℕ → FileResult
 write_file records count room = leaving (write_refusal records count room) (blocks_for count) (file_of records count) room
-
--- what each case of reading's answer is in the paper
-abbrev pub read_meaning : ReadAnswer → Answer ℕ
-read_meaning (Records n) = done n
-read_meaning (ReadRefused k) = refused k
-
--- what each case of writing's answer is in the paper
-abbrev pub write_meaning : WriteAnswer → Answer ℕ
-write_meaning (Blocks k) = done k
-write_meaning (WriteRefused k) = refused k

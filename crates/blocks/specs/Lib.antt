@@ -1,3 +1,4 @@
 pub mod Record
 pub mod Block
 pub mod File
+pub mod Inner

@@ -1,7 +1,6 @@
 -- A record of 16 bytes: byte 0 is its kind, fields follow from byte 1, unused bytes are zero. Each kind is a row of the table `kinds`. Assumes nothing.
 use Rattle.std.specs.Prelude.{Bool, false, cond, not, ◌&&◌, List, [], ◌∷◌, ℕ, suc, ◌+◌, eqb, leb, ltb, take, drop}
 use Rattle.octets.specs.Bytes.{byte, number2, number8, zero_between, zero_from}
-use Rattle.blocks.specs.declared.ReadStage.{ReadStage}
 
 -- FIELDS. Byte 0 of a record is its kind
 abbrev pub kind_of : List ℕ → ℕ
@@ -62,8 +61,15 @@ enter_right r =
 unfoldable pub value_right : List ℕ → Bool
 value_right r = zero_but_value 2 r && not (eqb (value_in r) 0)
 
--- ORDER. Reading goes from record to record with a stage, `ReadStage`: where the last record stands, 1 the size record and edges, 2 values, 3 steps, and 0 before
+-- ORDER. Reading goes from record to record with a stage: where the last record stands, 1 the size record and edges, 2 values, 3 steps, and 0 before
 -- any; n of the size record; the least node that the next value may have; and 0, or the refusal that was found, 3 or 4
+pub record ReadStage : Type 0 where
+  pub at : ℕ
+  pub size : ℕ
+  pub next : ℕ
+  pub wrong : ℕ
+
+-- a stage without a refusal
 abbrev pub reached : (at size next : ℕ) → ReadStage
 reached at size next = record { at = at; size = size; next = next; wrong = 0 }
 

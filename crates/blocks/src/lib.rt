@@ -1,12 +1,16 @@
 // Block files: records, reading and writing, refusals 1 to 4.
 #![tactic(auto)]
 
-ghost use Rattle.std.specs.Prelude.{◌≡◌, ◌+◌, ◌*◌, ◌<◌, ◌≤◌, length};
+ghost use Rattle.std.specs.Prelude.{◌≡◌, ℕ, List, ◌+◌, ◌*◌, ◌<◌, ◌≤◌, length};
 ghost use Rattle.lists.specs.Lists.{over};
 ghost use Rattle.octets.specs.Writes.{over_at};
-ghost use Rattle.blocks.specs.Record.{zero_but_value, enter_right, value_right, record_right, step_kind, begun, faulty, at_first, among_edges, among_values, among_steps};
+ghost use Rattle.blocks.specs.Record.{kind_of, zero_but_value, enter_right, value_right, record_right, step_kind, begun, at_first, among_edges, among_values, among_steps};
 ghost use Rattle.blocks.specs.Block.{placed, after_record, after_records, count_in, count_right, head_right, after_block, records_in, block_of};
-ghost use Rattle.blocks.specs.File.{after_blocks, records_of, not_blocks, read_file, read_meaning, blocks_of, write_file, write_meaning};
+ghost use Rattle.blocks.specs.File.{after_blocks, records_of, not_blocks, read_file, blocks_of, write_file};
+ghost use Rattle.blocks.specs.Inner.{Named, stage_of, Reads};
+ghost use Rattle.refusals.specs.Refusals.{meaning};
+
+use refusals::Refusal;
 
 // Bytes of a record.
 pub const RECORD: usize = 16;
@@ -26,306 +30,244 @@ const HEAD: usize = 8;
 // and where its check stands.
 const CHECK: usize = 508;
 
-// What reading a file answers: the count of its records.
+// The kinds of records.
 #[derive(Clone, Copy)]
-pub enum ReadAnswer {
-    Records(usize),
-    Refused(u8),
+enum RecordKind {
+    Size,
+    Edge,
+    Enter,
+    Get,
+    Put,
+    Leave,
+    Add,
+    Value,
 }
 
-// What writing a file answers: the count of its blocks.
+// The part of a file that its last record stands in.
 #[derive(Clone, Copy)]
-pub enum WriteAnswer {
-    Blocks(usize),
-    Refused(u8),
+enum Part {
+    // No record yet.
+    Nothing,
+    // The size record and edges.
+    Edges,
+    Values,
+    Steps,
 }
 
 // How far reading has come.
 #[derive(Clone, Copy)]
-pub struct ReadStage {
-    // 0 no record yet, 1 the size record and edges, 2 values, 3 steps.
-    pub at: u8,
+struct Stage {
+    part: Part,
     // n of the size record; 0 before it.
-    pub size: u16,
+    size: u16,
     // The least node that the next value may have.
-    pub next: u16,
-    // 0, or the refusal that was found, 3 or 4.
-    pub wrong: u8,
+    next: u16,
 }
 
+// Nothing is read.
+const BEGUN: Stage = Stage {
+    part: Part::Nothing,
+    size: 0,
+    next: 0,
+};
+
 // READING. Whether an enter has a mode, one to eight names, and zeros after them.
+#[tactic(auto, unfolding(crate::specs::Record::enter_right))]
 fn enter_right(r: &[u8]) -> bool
     ensures { result ≡ enter_right r.now }
 {
     let mode = octets::byte(r, 2);
-    let names = octets::byte(r, 3) as usize;
-    if mode < 1 {
-        return false;
-    }
-    if mode > 3 {
-        return false;
-    }
-    if names < 1 {
-        return false;
-    }
-    if names > 8 {
-        return false;
-    }
-    octets::zero_from(r, 4 + names)
+    let names = usize::from(octets::byte(r, 3));
+    1 <= mode && mode <= 3 && 1 <= names && names <= 8 && octets::zero_from(r, 4 + names)
 }
 
 // Whether all bytes from `at` on, but for a value in bytes 4 to 11, are zero.
 fn zero_but_value(r: &[u8], at: usize) -> bool
     ensures { result ≡ zero_but_value at r.now }
 {
-    if !octets::zero_between(r, at, 4) {
-        return false;
-    }
-    octets::zero_from(r, 12)
+    octets::zero_between(r, at, 4) && octets::zero_from(r, 12)
 }
 
 // Whether a value is not zero, and the unused bytes of its record are.
+#[tactic(auto, unfolding(crate::specs::Record::value_right))]
 fn value_right(r: &[u8]) -> bool
     ensures { result ≡ value_right r.now }
 {
-    if !zero_but_value(r, 2) {
-        return false;
-    }
-    octets::number8(r, 4) != 0
+    zero_but_value(r, 2) && octets::number8(r, 4) != 0
 }
 
 // Whether a kind is a step's: from 3 on, but not 8, the kind of a value. Records are right of 3 to 7 only.
+// Kept: callers hand it any byte, and its definition says of each number what it is, so a number it stays.
 pub fn step_kind(kind: u8) -> bool
     ensures { result ≡ step_kind kind }
 {
-    if kind < 3 {
-        return false;
+    3 <= kind && kind != 8
+}
+
+// The kind of a record, by its number in byte 0.
+fn kind_in(r: &[u8]) -> Option<RecordKind>
+    ensures { Named result (kind_of r.now) }
+{
+    match octets::byte(r, 0) {
+        1 => Some(RecordKind::Size),
+        2 => Some(RecordKind::Edge),
+        3 => Some(RecordKind::Enter),
+        4 => Some(RecordKind::Get),
+        5 => Some(RecordKind::Put),
+        6 => Some(RecordKind::Leave),
+        7 => Some(RecordKind::Add),
+        8 => Some(RecordKind::Value),
+        _ => None,
     }
-    kind != 8
 }
 
 // Whether a record is right by itself, by its kind's row.
 pub fn record_right(r: &[u8]) -> bool
     ensures { result ≡ record_right r.now }
 {
-    let kind = octets::byte(r, 0);
-    match kind {
-        1 => octets::zero_from(r, 3),
-        2 => octets::zero_from(r, 3),
-        3 => enter_right(r),
-        4 => octets::zero_from(r, 3),
-        5 => zero_but_value(r, 3),
-        6 => octets::zero_from(r, 2),
-        7 => zero_but_value(r, 3),
-        8 => value_right(r),
-        _ => false,
-    }
-}
-
-// Nothing is read.
-fn begin() -> ReadStage
-    ensures { result ≡ begun }
-{
-    ReadStage {
-        at: 0,
-        size: 0,
-        next: 0,
-        wrong: 0,
-    }
-}
-
-// The stage with a refusal found.
-fn fault(t: ReadStage, k: u8) -> ReadStage
-    ensures { result ≡ faulty k t }
-{
-    ReadStage {
-        at: t.at,
-        size: t.size,
-        next: t.next,
-        wrong: k,
+    // Kept: an arm for each kind; in one arm for several the proof is not told which of them it was.
+    match kind_in(r) {
+        Some(RecordKind::Size) => octets::zero_from(r, 3),
+        Some(RecordKind::Edge) => octets::zero_from(r, 3),
+        Some(RecordKind::Enter) => enter_right(r),
+        Some(RecordKind::Get) => octets::zero_from(r, 3),
+        Some(RecordKind::Put) => zero_but_value(r, 3),
+        Some(RecordKind::Leave) => octets::zero_from(r, 2),
+        Some(RecordKind::Add) => zero_but_value(r, 3),
+        Some(RecordKind::Value) => value_right(r),
+        None => false,
     }
 }
 
 // The stage after a size record that is right: it comes first.
-fn after_size(t: ReadStage, r: &[u8]) -> ReadStage
-    ensures { result ≡ placed at_first t r.now }
+fn after_size(t: Stage, r: &[u8]) -> Result<Stage, Refusal>
+    ensures { Reads result (placed at_first (stage_of t) r.now) }
 {
-    let n = octets::number2(r, 1) as u16;
-    if t.at > 0 {
-        return fault(t, 4);
-    }
-    ReadStage {
-        at: 1,
-        size: n,
-        next: t.next,
-        wrong: 0,
+    match t.part {
+        Part::Nothing => Ok(Stage {
+            part: Part::Edges,
+            size: octets::number2(r, 1) as u16,
+            next: t.next,
+        }),
+        _ => Err(Refusal::Malformed),
     }
 }
 
 // The stage after an edge that is right: it follows the size record and edges.
-fn after_edge(t: ReadStage, r: &[u8]) -> ReadStage
-    ensures { result ≡ placed among_edges t r.now }
+fn after_edge(t: Stage) -> Result<Stage, Refusal>
+    ensures { (r : List ℕ) → Reads result (placed among_edges (stage_of t) r) }
 {
-    if t.at < 1 {
-        return fault(t, 4);
-    }
-    if t.at > 1 {
-        return fault(t, 4);
-    }
-    ReadStage {
-        at: 1,
-        size: t.size,
-        next: t.next,
-        wrong: 0,
+    match t.part {
+        Part::Edges => Ok(t),
+        _ => Err(Refusal::Malformed),
     }
 }
 
 // The stage after a value that is right: it follows the edges and values of lower nodes, and its node is below n.
-fn after_value(t: ReadStage, r: &[u8]) -> ReadStage
-    ensures { result ≡ placed among_values t r.now }
+fn after_value(t: Stage, r: &[u8]) -> Result<Stage, Refusal>
+    ensures { Reads result (placed among_values (stage_of t) r.now) }
 {
-    let node = octets::byte(r, 1) as u16;
-    if t.at < 1 {
-        return fault(t, 4);
-    }
-    if t.at > 2 {
-        return fault(t, 4);
-    }
-    if node < t.next {
-        return fault(t, 4);
-    }
-    if node >= t.size {
-        return fault(t, 4);
-    }
-    ReadStage {
-        at: 2,
-        size: t.size,
-        next: node + 1,
-        wrong: 0,
+    let node = u16::from(octets::byte(r, 1));
+    match t.part {
+        Part::Edges | Part::Values if t.next <= node && node < t.size => Ok(Stage {
+            part: Part::Values,
+            size: t.size,
+            next: node + 1,
+        }),
+        _ => Err(Refusal::Malformed),
     }
 }
 
 // The stage after a step that is right: it follows the size record, edges, values and steps.
-fn after_step(t: ReadStage, r: &[u8]) -> ReadStage
-    ensures { result ≡ placed among_steps t r.now }
+fn after_step(t: Stage) -> Result<Stage, Refusal>
+    ensures { (r : List ℕ) → Reads result (placed among_steps (stage_of t) r) }
 {
-    if t.at < 1 {
-        return fault(t, 4);
-    }
-    if t.at > 3 {
-        return fault(t, 4);
-    }
-    ReadStage {
-        at: 3,
-        size: t.size,
-        next: t.next,
-        wrong: 0,
+    match t.part {
+        Part::Nothing => Err(Refusal::Malformed),
+        _ => Ok(Stage {
+            part: Part::Steps,
+            size: t.size,
+            next: t.next,
+        }),
     }
 }
 
-// The stage after one record: a refusal stays; a record that is right leads on by its kind's place.
-fn after_record(t: ReadStage, r: &[u8]) -> ReadStage
-    ensures { result ≡ after_record t r.now }
+// The stage after one record: one that is right leads on by its kind's place.
+fn after_record(t: Stage, r: &[u8]) -> Result<Stage, Refusal>
+    ensures { Reads result (after_record (stage_of t) r.now) }
 {
-    let kind = octets::byte(r, 0);
-    if t.wrong != 0 {
-        return t;
-    }
+    let Some(kind) = kind_in(r) else {
+        return Err(Refusal::Malformed);
+    };
     if !record_right(r) {
-        return fault(t, 4);
+        return Err(Refusal::Malformed);
     }
     match kind {
-        1 => after_size(t, r),
-        2 => after_edge(t, r),
-        8 => after_value(t, r),
-        _ => after_step(t, r),
+        RecordKind::Size => after_size(t, r),
+        RecordKind::Edge => after_edge(t),
+        RecordKind::Value => after_value(t, r),
+        _ => after_step(t),
     }
 }
 
 // The stage after n records.
-fn after_records(t: ReadStage, s: &[u8], n: usize) -> ReadStage
+fn after_records(t: Stage, s: &[u8], n: usize) -> Result<Stage, Refusal>
     requires { 16 * n ≤ length s.now }
-    ensures { result ≡ after_records t n s.now }
+    ensures { Reads result (after_records (stage_of t) n s.now) }
 {
     let mut reached = t;
-    let mut i: usize = 0;
-    while i < n {
-        let at = RECORD * i;
-        let end = at + RECORD;
-        reached = after_record(reached, &s[at..end]);
-        i += 1;
+    for record in s[..RECORD * n].chunks_exact(RECORD) {
+        reached = after_record(reached, record)?;
     }
-    reached
+    Ok(reached)
 }
 
 // Whether a block may hold n records.
+#[tactic(auto, unfolding(crate::specs::Block::count_right))]
 fn count_right(last: bool, n: u32) -> bool
     ensures { result ≡ count_right last n }
 {
-    if n < 1 {
-        return false;
-    }
-    if n > MOST {
-        return false;
-    }
-    if last {
-        return true;
-    }
-    n == MOST
+    1 <= n && n <= MOST && (last || n == MOST)
 }
 
 // Whether a block's number, count and unused bytes are right.
+#[tactic(auto, unfolding(crate::specs::Block::head_right))]
 fn head_right(number: u32, last: bool, block: &[u8]) -> bool
     ensures { result ≡ head_right number last block.now }
 {
     let n = octets::number2(block, 4);
-    if octets::number4(block, 0) != number {
-        return false;
-    }
-    if !count_right(last, n) {
-        return false;
-    }
-    if octets::number2(block, 6) != 0 {
-        return false;
-    }
-    octets::zero_between(block, HEAD + RECORD * (n as usize), CHECK)
+    octets::number4(block, 0) == number
+        && count_right(last, n)
+        && octets::number2(block, 6) == 0
+        && octets::zero_between(block, HEAD + RECORD * (n as usize), CHECK)
 }
 
 // The stage after a block of 512 bytes: 3 where the check differs, before 4 where anything else is wrong.
-fn after_block(number: u32, last: bool, t: ReadStage, block: &[u8]) -> ReadStage
+fn after_block(number: u32, last: bool, t: Stage, block: &[u8]) -> Result<Stage, Refusal>
     requires { length block.now ≡ 512 }
-    ensures { result ≡ after_block number last t block.now }
+    ensures { Reads result (after_block number last (stage_of t) block.now) }
 {
-    if t.wrong != 0 {
-        return t;
-    }
     let computed = octets::block_check(&block[..CHECK]);
-    let differs = octets::number4(block, CHECK) != computed;
-    let right = head_right(number, last, block);
-    if differs {
-        return fault(t, 3);
+    if octets::number4(block, CHECK) != computed {
+        return Err(Refusal::CheckDiffers);
     }
-    if !right {
-        return fault(t, 4);
+    if !head_right(number, last, block) {
+        return Err(Refusal::Malformed);
     }
     after_records(t, &block[HEAD..], octets::number2(block, 4) as usize)
 }
 
 // The stage after k blocks.
-fn after_blocks(file: &[u8], k: usize) -> ReadStage
+fn after_blocks(file: &[u8], k: usize) -> Result<Stage, Refusal>
     requires { (512 * k ≤ length file.now) × (k ≤ 128) }
-    ensures { result ≡ after_blocks k 0 begun file.now }
+    ensures { Reads result (after_blocks k 0 begun file.now) }
 {
-    let mut stage = begin();
-    let mut i: usize = 0;
-    while i < k {
+    let mut reached = BEGUN;
+    for i in 0..k {
         let at = BLOCK * i;
-        let end = at + BLOCK;
-        let left = k - (i + 1);
-        stage = after_block(i as u32, left == 0, stage, &file[at..end]);
-        i += 1;
+        reached = after_block(i as u32, i + 1 == k, reached, &file[at..at + BLOCK])?;
     }
-    stage
+    Ok(reached)
 }
 
 // Writes the records of a block from a place of the room on, and answers how many bytes these are.
@@ -344,49 +286,36 @@ fn copy_records(file: &[u8], k: usize, room: &mut [u8]) -> usize
     requires { (length file.now ≡ 512 * k) × (k ≤ 128) × (496 * k ≤ length room.old) × ((after_blocks k 0 begun file.now).wrong ≡ 0) }
     ensures { (result ≡ length (records_of k file.now)) × (room.new ≡ over (records_of k file.now) room.old) }
 {
-    let mut to: usize = 0;
-    let mut i: usize = 0;
-    while i < k {
+    let mut to = 0;
+    for i in 0..k {
         let at = BLOCK * i;
-        let end = at + BLOCK;
-        to += copy_block(&file[at..end], to, room);
-        i += 1;
+        to += copy_block(&file[at..at + BLOCK], to, room);
     }
     to
 }
 
 // Whether a file is not 1 to 128 whole blocks.
+#[tactic(auto, unfolding(crate::specs::File::not_blocks))]
 fn not_blocks(file: &[u8]) -> bool
     ensures { result ≡ not_blocks file.now }
 {
     let k = file.len() / BLOCK;
-    if file.len() % BLOCK != 0 {
-        return true;
-    }
-    if k < 1 {
-        return true;
-    }
-    k > 128
+    file.len() % BLOCK != 0 || k < 1 || k > 128
 }
 
-// Reads a file: the whole of it is judged, then its records go to the front of the room.
-pub fn read(file: &[u8], room: &mut [u8]) -> ReadAnswer
-    ensures { (read_meaning result ≡ (read_file file.now room.old).answer) × (room.new ≡ (read_file file.now room.old).room) }
+// Reads a file: the whole of it is judged, then its records go to the front of the room. Answers how many records these are.
+pub fn read(file: &[u8], room: &mut [u8]) -> Result<usize, Refusal>
+    ensures { (meaning result ≡ (read_file file.now room.old).answer) × (room.new ≡ (read_file file.now room.old).room) }
 {
     let k = file.len() / BLOCK;
     if room.len() < FULL * k {
-        return ReadAnswer::Refused(1);
+        return Err(Refusal::Short);
     }
     if not_blocks(file) {
-        return ReadAnswer::Refused(2);
+        return Err(Refusal::NotBlocks);
     }
-    let reached = after_blocks(file, k);
-    let wrong = reached.wrong;
-    if wrong > 0 {
-        return ReadAnswer::Refused(wrong);
-    }
-    let bytes = copy_records(file, k, room);
-    ReadAnswer::Records(bytes / RECORD)
+    after_blocks(file, k)?;
+    Ok(copy_records(file, k, room) / RECORD)
 }
 
 // WRITING. Writes the block of given records; the count in bytes 4 and 5 and the zeros in 6 and 7 are one number.
@@ -408,40 +337,33 @@ fn write_blocks(records: &[u8], k: usize, room: &mut [u8])
     requires { (512 * k ≤ length room.old) × (k ≤ 128) × (length records.now ≤ 496 * k) × (496 * k < length records.now + 496) }
     ensures { room.new ≡ over (blocks_of k 0 records.now) room.old }
 {
-    let mut i: usize = 0;
-    while i < k {
+    for i in 0..k {
         let at = BLOCK * i;
-        let end = at + BLOCK;
         let from = FULL * i;
-        let to = octets::least(from + FULL, records.len());
-        write_block(i as u32, &records[from..to], &mut room[at..end]);
-        i += 1;
+        let to = (from + FULL).min(records.len());
+        write_block(i as u32, &records[from..to], &mut room[at..at + BLOCK]);
     }
 }
 
-// Writes records as a file: they are judged, then the blocks go to the front of the room.
-pub fn write(records: &[u8], count: usize, room: &mut [u8]) -> WriteAnswer
-    ensures { (write_meaning result ≡ (write_file records.now count room.old).answer) × (room.new ≡ (write_file records.now count room.old).room) }
+// Writes records as a file: they are judged, then the blocks go to the front of the room. Answers how many blocks these are.
+pub fn write(records: &[u8], count: usize, room: &mut [u8]) -> Result<usize, Refusal>
+    ensures { (meaning result ≡ (write_file records.now count room.old).answer) × (room.new ≡ (write_file records.now count room.old).room) }
 {
     if records.len() / RECORD < count {
-        return WriteAnswer::Refused(1);
+        return Err(Refusal::Short);
     }
-    let k = (count + 30) / 31;
+    let k = count.div_ceil(31);
     if room.len() < BLOCK * k {
-        return WriteAnswer::Refused(1);
+        return Err(Refusal::Short);
     }
     if count > 3968 {
-        return WriteAnswer::Refused(2);
+        return Err(Refusal::NotBlocks);
     }
     if count < 1 {
-        return WriteAnswer::Refused(4);
+        return Err(Refusal::Malformed);
     }
-    let reached = after_records(begin(), records, count);
-    let amiss = reached.wrong;
-    if amiss != 0 {
-        return WriteAnswer::Refused(4);
-    }
+    after_records(BEGUN, records, count)?;
     let end = RECORD * count;
     write_blocks(&records[..end], k, room);
-    WriteAnswer::Blocks(k)
+    Ok(k)
 }

@@ -1,7 +1,7 @@
 // Over an interval table of any contents: the interval of a node, the interval of a call and its cover.
 #![tactic(auto)]
 
-ghost use Rattle.std.specs.Prelude.{◌≡◌, List, [], ◌∷◌, ◌++◌, ℕ, ◌+◌, ◌/◌, ◌≤◌, min, max, length};
+ghost use Rattle.std.specs.Prelude.{◌≡◌, List, [], ◌∷◌, ◌++◌, ℕ, ◌≤◌, length};
 ghost use Rattle.covers.specs.Cover.{interval_at, call_interval, one_more, contains as containing, width as width_of, closer as is_closer, closest as closest_of, cover_of};
 
 // The interval of a node or of a call, from its low to its high.
@@ -11,37 +11,16 @@ pub struct Interval {
     pub high: u16,
 }
 
-// The interval of a node in a table.
+// The interval of a node in a table; past its end stands 0.
 pub fn interval_at(intervals: &[u16], node: usize) -> Interval
     ensures { result ≡ interval_at intervals.now node }
 {
-    if intervals.len() / 2 < node {
-        return Interval { low: 0, high: 0 };
-    }
+    // All places past the end are alike.
+    let place = 2 * node.min(intervals.len());
     Interval {
-        low: hierarchy::number_at(intervals, 2 * node),
-        high: hierarchy::number_at(intervals, 2 * node + 1),
+        low: intervals.get(place).copied().unwrap_or(0),
+        high: intervals.get(place + 1).copied().unwrap_or(0),
     }
-}
-
-// The less of two numbers.
-fn lesser(x: u16, y: u16) -> u16
-    ensures { result ≡ min x y }
-{
-    if y < x {
-        return y;
-    }
-    x
-}
-
-// The greater of two numbers.
-pub fn greater(x: u16, y: u16) -> u16
-    ensures { result ≡ max x y }
-{
-    if x <= y {
-        return y;
-    }
-    x
 }
 
 // One name more: from the bounds of the names so far and the interval of the next one, the bounds of those names with this one behind them.
@@ -50,8 +29,8 @@ fn one_name_more(bounds: Interval, next: Interval) -> Interval
     ensures by_index { (table names : List ℕ) (name : ℕ) → 1 ≤ length names → bounds ≡ call_interval table names → next ≡ interval_at table name → result ≡ call_interval table (names ++ (name ∷ [])) }
 {
     Interval {
-        low: lesser(bounds.low, next.low),
-        high: greater(bounds.high, next.high),
+        low: bounds.low.min(next.low),
+        high: bounds.high.max(next.high),
     }
 }
 
@@ -59,14 +38,12 @@ fn one_name_more(bounds: Interval, next: Interval) -> Interval
 pub fn call_interval(intervals: &[u16], names: &[u16]) -> Interval
     ensures { result ≡ call_interval intervals.now names.now }
 {
-    if names.len() == 0 {
+    let Some((&first, others)) = names.split_first() else {
         return Interval { low: 0, high: 0 };
-    }
-    let mut bounds = interval_at(intervals, names[0] as usize);
-    let mut i = 0;
-    while i + 1 < names.len() {
-        i += 1;
-        let next = interval_at(intervals, names[i] as usize);
+    };
+    let mut bounds = interval_at(intervals, usize::from(first));
+    for &name in others {
+        let next = interval_at(intervals, usize::from(name));
         bounds = one_name_more(bounds, next);
     }
     bounds
@@ -76,20 +53,14 @@ pub fn call_interval(intervals: &[u16], names: &[u16]) -> Interval
 fn contains(outer: Interval, inner: Interval) -> bool
     ensures { result ≡ containing outer inner }
 {
-    if outer.low <= inner.low {
-        return inner.high <= outer.high;
-    }
-    false
+    outer.low <= inner.low && inner.high <= outer.high
 }
 
 // How wide an interval is.
 fn width(a: Interval) -> u16
     ensures { result ≡ width_of a }
 {
-    if a.low <= a.high {
-        return a.high - a.low;
-    }
-    0
+    a.high.saturating_sub(a.low)
 }
 
 // Whether an interval is closer to the call's than another: it contains the call's, and the other does not or is wider.
@@ -99,32 +70,19 @@ fn closer(call: Interval, a: Interval, b: Interval) -> bool
     contains(a, call) & (!contains(b, call) | (width(a) < width(b)))
 }
 
-// How many of n nodes are worth a look. Past the end of the table all intervals are the same, so that a node there stands for all.
-fn worth_a_look(n: usize, intervals: &[u16]) -> usize
-    ensures { result ≡ min n (length intervals.now / 2 + 2) }
-{
-    let most = intervals.len() / 2 + 2;
-    if n <= most {
-        return n;
-    }
-    most
-}
-
-// Of n nodes the closest to a call's interval, by one pass over those worth a look: over all of them where the table has their intervals.
+// Of n nodes the closest to a call's interval, by one pass over those worth a look: over all of them where the table has their intervals. Past the end of the
+// table all intervals are the same, so that a node there stands for all.
 pub fn closest(n: usize, intervals: &[u16], call: Interval) -> usize
     ensures { result ≡ closest_of n intervals.now call }
 {
-    let end = worth_a_look(n, intervals);
     let mut best = 0;
     let mut around = interval_at(intervals, best);
-    let mut node = 0;
-    while node < end {
+    for node in 0..n.min(intervals.len() / 2 + 2) {
         let here = interval_at(intervals, node);
         if closer(call, here, around) {
             best = node;
             around = here;
         }
-        node += 1;
     }
     best
 }

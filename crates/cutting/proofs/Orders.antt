@@ -12,8 +12,7 @@ use Rattle.lists.specs.Lists.{every, keep, kept_if, count, one}
 use Rattle.lists.proofs.Kept.{every_drop, every_keep, every_kept, keep_none}
 use Rattle.lists.proofs.Loops.{keep_count}
 use Rattle.lists.proofs.Bools.{bool, and_left, and_right, and_both}
-use Rattle.blocks.specs.declared.ReadStage.{ReadStage}
-use Rattle.blocks.specs.Record.{kind_of, size_in, value_in, begun, faulty, reached, record_right}
+use Rattle.blocks.specs.Record.{ReadStage, kind_of, size_in, value_in, begun, faulty, reached, record_right}
 use Rattle.blocks.specs.Block.{after_record}
 use Rattle.blocks.proofs.Rows.{after_stays}
 use Rattle.block_laws.proofs.ByKind.{one_of_eight, place_of, ordered, in_turn, past_record, right_by_kind, after_by_kind}

@@ -14,8 +14,7 @@ use Rattle.lists.proofs.Kept.{every_append, every_drop, every_kept}
 use Rattle.lists.specs.Answer.{Check, ◌when◌, done, refusal}
 use Rattle.lists.proofs.Bools.{bool, not_both, and_left, and_right, and_both}
 use Rattle.lists.proofs.Refusals.{refusal_none, refusal_nil, refused_here, refused_later}
-use Rattle.blocks.specs.declared.ReadStage.{ReadStage}
-use Rattle.blocks.specs.Record.{kind_of, begun}
+use Rattle.blocks.specs.Record.{ReadStage, kind_of, begun}
 use Rattle.blocks.specs.Block.{after_record, after_records}
 use Rattle.blocks.specs.File.{whole_blocks, file_records, file_checks, leaving, blocks_for, write_file}
 use Rattle.blocks.proofs.Answers.{blocks_facts, right_records, write_none}

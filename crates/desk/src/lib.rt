@@ -1,17 +1,20 @@
 // The desk: who may be in which nodes. The desk, what its five steps answer, and the steps.
 #![tactic(auto)]
 
-ghost use Rattle.std.specs.Prelude.{◌≡◌, ◌<◌, ◌≤◌, ◌||◌, [], length, take, replicate, nat_lt};
+ghost use Rattle.std.specs.Prelude.{◌≡◌, ◌<◌, ◌≤◌, ◌||◌, length, take, replicate, nat_lt};
 ghost use Rattle.lists.specs.Lists.{over};
-ghost use Rattle.locks.specs.Lent.{lent, tables_short};
-ghost use Rattle.desk.specs.Desks.{fresh_desk};
-ghost use Rattle.desk.specs.Steps.{grant_to, queue_last, enter_step, search_after, get_step, put_step, sum64, add_step, leave_step};
+ghost use Rattle.lists.specs.Answer.{refusal};
+ghost use Rattle.locks.specs.declared.Stage.TheVariants.{Holding};
+ghost use Rattle.locks.specs.Lent.{lent_in, tables_short};
+ghost use Rattle.desk.specs.Desks.{stage_at, fresh_desk};
+ghost use Rattle.desk.specs.Steps.{grant_to, queue_last, enter_refusal, enter_step, search_after, get_step, put_step, add_step, leave_refusal, leave_step};
 ghost use Rattle.desk.specs.Answers.{Enters, Gets, Puts, Adds, Leaves};
-ghost use Rattle.desk.specs.Inner.{SizesJudged, Judged, NodeJudged, ValueJudged, left_by};
+ghost use Rattle.desk.specs.Inner.{refused_with, own_at, changed_by, list_at, change_step, SizesJudged, Judged, NodeJudged, ValueJudged, left_by};
 
 use arrivals::{Listed, PARTIES};
-use locks::{Lock, Mode, Stage};
+use locks::{Lent, Lock, Mode, Stage};
 use parties::Entry;
+use refusals::Refusal;
 use sweeps::Swept;
 
 // The desk: an entry for each of 32 parties, the waiting parties in arrival order at the front of the queue, and each party's count of grants.
@@ -24,105 +27,67 @@ pub struct Desk {
 }
 
 // What enter answers.
+// Kept: an enum of three cases, the form of document 01 ("Granted with the cover, Waits, or Refused with its number").
 #[derive(Clone, Copy)]
 pub enum EnterAnswer {
     Granted(usize),
     Waits,
-    Refused(u8),
+    Refused(Refusal),
 }
 
 // What get answers: no value is available to a party that waits.
+// Kept: an enum of three cases, the form of document 01 ("get's answer is taken apart by let .. else").
 #[derive(Clone, Copy)]
 pub enum GetAnswer {
     Value(u64),
     Waiting,
-    Refused(u8),
+    Refused(Refusal),
 }
 
-// What put answers.
+// What a step hands back: the next desk, and its answer.
 #[derive(Clone, Copy)]
-pub enum PutAnswer {
-    Stored,
-    Refused(u8),
-}
-
-// What add answers.
-#[derive(Clone, Copy)]
-pub enum AddAnswer {
-    Added,
-    Refused(u8),
-}
-
-// What leave answers: the count of the parties that it granted.
-#[derive(Clone, Copy)]
-pub enum LeaveAnswer {
-    Left(usize),
-    Refused(u8),
-}
-
-// What link answers.
-#[derive(Clone, Copy)]
-pub enum LinkAnswer {
-    Linked,
-    Refused(u8),
-}
-
-// What enter hands back: the next desk, and its answer.
-#[derive(Clone, Copy)]
-pub struct EnterStep {
+pub struct Step<A> {
     pub desk: Desk,
-    pub answer: EnterAnswer,
+    pub answer: A,
 }
 
-// What get hands back.
+// What a visit does to a value: it reads it, puts a number in its place, or adds one to it.
 #[derive(Clone, Copy)]
-pub struct GetStep {
-    pub desk: Desk,
-    pub answer: GetAnswer,
+enum Access {
+    Get,
+    Put(u64),
+    Add(u64),
 }
 
-// What put hands back.
-#[derive(Clone, Copy)]
-pub struct PutStep {
-    pub desk: Desk,
-    pub answer: PutAnswer,
-}
-
-// What add hands back.
-#[derive(Clone, Copy)]
-pub struct AddStep {
-    pub desk: Desk,
-    pub answer: AddAnswer,
-}
-
-// What leave hands back.
-#[derive(Clone, Copy)]
-pub struct LeaveStep {
-    pub desk: Desk,
-    pub answer: LeaveAnswer,
-}
-
-// What link hands back.
-#[derive(Clone, Copy)]
-pub struct LinkStep {
-    pub desk: Desk,
-    pub answer: LinkAnswer,
-}
-
-// What every step asks of lengths and counts: the number of the first refusal that holds, or 0.
-fn judge_sizes(n: usize, intervals: &[u16], edges: &[u16], edge_count: usize, short: bool) -> u8
-    ensures { (result < 12) × SizesJudged (lent n intervals.now edges.now edge_count) short result }
+// What every step asks of lengths and counts.
+#[tactic(auto, unfolding(lists::specs::Answer::refusal))]
+fn judge_sizes(tables: &Lent<'_>, short: bool) -> Result<(), Refusal>
+    ensures { SizesJudged (lent_in tables.now) short result }
 {
-    if locks::tables_short(n, intervals, edges, edge_count) | short {
-        return 1;
+    if locks::tables_short(tables) | short {
+        return Err(Refusal::Short);
     }
-    if hierarchy::size_wrong(n) {
-        return 5;
+    if hierarchy::size_wrong(tables.n) {
+        return Err(Refusal::SizeWrong);
     }
-    if hierarchy::EDGES < edge_count {
-        return 6;
+    if hierarchy::EDGES < tables.edges.count {
+        return Err(Refusal::ManyEdges);
     }
-    0
+    Ok(())
+}
+
+// Whether a visit with this lock may do so to a value.
+#[tactic(auto, unfolding(lists::specs::Answer::refusal))]
+fn judge_mode(access: Access, l: Lock) -> Result<(), Refusal>
+    ensures { refusal (own_at access (Holding l)) ≡ refused_with result }
+{
+    match (access, l.mode) {
+        (Access::Get, Mode::Adding) => Err(Refusal::OtherMode),
+        (Access::Put(_), Mode::Reading) => Err(Refusal::ReadsOnly),
+        (Access::Put(_), Mode::Adding) => Err(Refusal::OtherMode),
+        (Access::Add(_), Mode::Reading | Mode::Writing) => Err(Refusal::OtherMode),
+        _ => Ok(()),
+    }
 }
 
 // Writes the first of the places over the front of a lent list.
@@ -130,21 +95,21 @@ fn put_list(places: &[u8], count: usize, list: &mut [u8])
     requires { (count ≤ length places.now) × (count ≤ length list.old) }
     ensures { list.new ≡ over (take count places.now) list.old }
 {
-    let mut i: usize = 0;
-    while i < count {
-        list[i] = places[i];
-        i += 1;
-    }
+    list[..count].copy_from_slice(&places[..count]);
 }
 
 // Bytes of the scratch that get, put and add are lent for their search.
 const SEARCH: usize = 256;
 
-// A number added to a value, modulo 2 to the 64.
-fn sum(value: u64, number: u64) -> u64
-    ensures { result ≡ sum64 value number }
+// The value after an access; a sum is modulo 2 to the 64.
+fn changed(access: Access, value: u64) -> u64
+    ensures { result ≡ changed_by access value }
 {
-    std::num::wrapping_add_u64(value, number)
+    match access {
+        Access::Get => value,
+        Access::Put(number) => number,
+        Access::Add(number) => value.wrapping_add(number),
+    }
 }
 
 impl Desk {
@@ -160,93 +125,119 @@ impl Desk {
         }
     }
 
-    // What every step looks at: the number of the first refusal that holds, or 0.
-    fn judge(
-        self,
-        n: usize,
-        intervals: &[u16],
-        edges: &[u16],
-        edge_count: usize,
-        party: usize,
-        short: bool,
-    ) -> u8
-        ensures { (result < 12) × Judged (lent n intervals.now edges.now edge_count) self party short result }
+    // The arrival list.
+    fn list(&self) -> Listed
+        ensures { result ≡ list_at self.now }
     {
-        let k = judge_sizes(n, intervals, edges, edge_count, short);
-        if k != 0 {
-            return k;
+        Listed {
+            places: self.queue,
+            count: self.waiting,
         }
-        if hierarchy::edges_wrong(n, edges, edge_count) {
-            return 7;
+    }
+
+    // The stage of a party.
+    fn stage(&self, party: usize) -> Stage
+        ensures { result ≡ stage_at self.now party }
+    {
+        parties::stage(&self.entries, party)
+    }
+
+    // What every step looks at.
+    fn judge(&self, tables: &Lent<'_>, party: usize, short: bool) -> Result<(), Refusal>
+        ensures { Judged (lent_in tables.now) self.now party short result }
+    {
+        judge_sizes(tables, short)?;
+        if hierarchy::edges_wrong(tables.n, &tables.edges) {
+            return Err(Refusal::EdgeWrong);
         }
-        let entries = self.entries;
-        let places = self.queue;
-        let count = self.waiting;
-        if parties::state_wrong(n, intervals, entries, Listed { places, count }) {
-            return 10;
+        if parties::state_wrong(tables, self.entries, self.list()) {
+            return Err(Refusal::StateWrong);
         }
         if 31 < party {
-            return 11;
+            return Err(Refusal::PartyWrong);
         }
-        0
+        Ok(())
     }
 
-    // What get, put and add look at besides: the number of the first refusal that holds, or 0. The first n bytes of the scratch are 0, and it is left as it was.
+    // What enter looks at.
+    fn judge_enter(
+        &self,
+        tables: &Lent<'_>,
+        party: usize,
+        names: &[u16],
+        name_count: usize,
+    ) -> Result<(), Refusal>
+        ensures { enter_refusal (lent_in tables.now) self.now party names.now name_count ≡ refused_with result }
+    {
+        self.judge(tables, party, names.len() < name_count)?;
+        if !locks::is_out(self.stage(party)) {
+            return Err(Refusal::NotOut);
+        }
+        if locks::names_wrong(tables.n, names, name_count) {
+            return Err(Refusal::NamesWrong);
+        }
+        Ok(())
+    }
+
+    // What get, put and add look at besides. The first n bytes of the scratch are 0, and it is left as it was.
     fn judge_node(
-        self,
-        n: usize,
-        edges: &[u16],
-        edge_count: usize,
+        &self,
+        tables: &Lent<'_>,
         party: usize,
         node: usize,
+        access: Access,
         scratch: &mut [u8],
-    ) -> u8
-        requires { (n ≤ length scratch.old) × (take n scratch.old ≡ replicate n 0) }
-        ensures upper_bound { (result < 17) × NodeJudged (lent n [] edges.now edge_count) self party node result }
+    ) -> Result<(), Refusal>
+        requires { (tables.now.n ≤ length scratch.old) × (take tables.now.n scratch.old ≡ replicate tables.now.n 0) }
+        ensures judged { NodeJudged (lent_in tables.now) self.now party node access result }
         ensures scratch_unchanged { scratch.new ≡ scratch.old }
     {
-        let entries = self.entries;
-        let s = parties::stage(entries, party);
-        if locks::is_out(s) {
-            return 13;
+        let stage = self.stage(party);
+        let l = match stage {
+            Stage::Out => return Err(Refusal::IsOut),
+            Stage::Waiting(_) => return Err(Refusal::IsWaiting),
+            Stage::Holding(l) => l,
+        };
+        if tables.n <= node {
+            return Err(Refusal::NamesWrong);
         }
-        if locks::is_waiting(s) {
-            return 14;
+        if !locks::in_named(&tables.edges, node, stage, &mut scratch[..tables.n]) {
+            return Err(Refusal::NotReached);
         }
-        if n <= node {
-            return 15;
-        }
-        if !locks::in_named(edges, edge_count, node, s, &mut scratch[..n]) {
-            return 16;
-        }
-        0
+        judge_mode(access, l)
     }
 
-    // What get, put and add look at but for the visit's mode: the number of the first refusal that holds, or 0. `few` says that the values are too few.
+    // All that get, put and add look at. `few` says that the values are too few.
     fn judge_value(
-        self,
-        n: usize,
-        intervals: &[u16],
-        edges: &[u16],
-        edge_count: usize,
+        &self,
+        tables: &Lent<'_>,
         party: usize,
         node: usize,
+        access: Access,
         few: bool,
         scratch: &mut [u8],
-    ) -> u8
-        ensures upper_bound { (result < 17) × ValueJudged (lent n intervals.now edges.now edge_count) self party node (few || nat_lt (length scratch.old) 256) result }
-        ensures scratch_after { scratch.new ≡ search_after (tables_short (lent n intervals.now edges.now edge_count) || (few || nat_lt (length scratch.old) 256)) scratch.old }
+    ) -> Result<(), Refusal>
+        ensures judged { ValueJudged (lent_in tables.now) self.now party node access (few || nat_lt (length scratch.old) 256) result }
+        ensures scratch_after { scratch.new ≡ search_after (tables_short (lent_in tables.now) || (few || nat_lt (length scratch.old) 256)) scratch.old }
     {
         let short = few | (scratch.len() < SEARCH);
-        if locks::tables_short(n, intervals, edges, edge_count) | short {
-            return 1;
+        if locks::tables_short(tables) | short {
+            return Err(Refusal::Short);
         }
-        hierarchy::clear_first(SEARCH, scratch);
-        let k = self.judge(n, intervals, edges, edge_count, party, short);
-        if k != 0 {
-            return k;
+        scratch[..SEARCH].fill(0);
+        self.judge(tables, party, short)?;
+        self.judge_node(tables, party, node, access, scratch)
+    }
+
+    // What leave looks at.
+    fn judge_leave(&self, tables: &Lent<'_>, party: usize, list: &[u8]) -> Result<(), Refusal>
+        ensures { leave_refusal (lent_in tables.now) self.now party list.now ≡ refused_with result }
+    {
+        self.judge(tables, party, list.len() < PARTIES)?;
+        if locks::is_out(self.stage(party)) {
+            return Err(Refusal::IsOut);
         }
-        self.judge_node(n, edges, edge_count, party, node, scratch)
+        Ok(())
     }
 
     // The desk with a lock granted to a party that was out.
@@ -254,17 +245,12 @@ impl Desk {
         requires { party < 32 }
         ensures { result ≡ grant_to self party l }
     {
-        let places = self.queue;
-        let count = self.waiting;
-        let tidy = arrivals::tidy(Listed { places, count });
-        let mut counts = self.grants;
-        grants::count_grant(&mut counts, party);
         let mut d = self;
         d.entries[party] = Entry {
             stage: Stage::Holding(l),
         };
-        d.queue = tidy;
-        d.grants = counts;
+        d.queue = self.list().tidy();
+        grants::count_grant(&mut d.grants, party);
         d
     }
 
@@ -273,15 +259,12 @@ impl Desk {
         requires { (self.waiting ≤ 32) × (party < 32) }
         ensures { result ≡ queue_last self party l }
     {
-        let places = self.queue;
-        let count = self.waiting;
-        let longer = arrivals::with_last(Listed { places, count }, party as u8);
         let mut d = self;
         d.entries[party] = Entry {
             stage: Stage::Waiting(l),
         };
-        d.queue = longer;
-        d.waiting = count + 1;
+        d.queue = self.list().with_last(party as u8);
+        d.waiting += 1;
         d
     }
 
@@ -289,243 +272,158 @@ impl Desk {
     fn after(self, s: Swept) -> Desk
         ensures { result ≡ left_by self s }
     {
-        let granted = s.granted;
-        let places = granted.places;
+        let parties = s.granted.places;
         let mut counts = self.grants;
-        grants::count_grants(&mut counts, &places, granted.count);
+        grants::count_grants(&mut counts, &parties, s.granted.count);
         let entries = s.entries;
-        let stay = s.stay;
-        let queue = stay.places;
+        let queue = s.stay.places;
         Desk {
             entries,
             queue,
-            waiting: stay.count,
+            waiting: s.stay.count,
             grants: counts,
         }
     }
 
+    // Puts or adds: a value becomes what the access makes of it.
+    fn change(
+        self,
+        tables: &Lent<'_>,
+        party: usize,
+        node: usize,
+        access: Access,
+        values: &mut [u64],
+        scratch: &mut [u8],
+    ) -> Step<Result<(), Refusal>>
+        ensures { Puts result values.new scratch.new (change_step (lent_in tables.now) self party node access values.old scratch.old) }
+    {
+        let few = values.len() < tables.n;
+        if let Err(k) = self.judge_value(tables, party, node, access, few, scratch) {
+            return Step {
+                desk: self,
+                answer: Err(k),
+            };
+        }
+        values[node] = changed(access, values[node]);
+        Step {
+            desk: self,
+            answer: Ok(()),
+        }
+    }
+
     // A party asks for the nodes that it names: granted with the cover, or waiting.
+    // Kept: it takes the desk and hands the next one back, as the steps below, the form of document 01 (no `&mut self`). Names stay beside their count, since refusal 1 is given
+    // where they are fewer (`enter_refusal`).
+    #[tactic(auto, unfolding(crate::specs::Steps::enter_step))]
     pub fn enter(
         self,
-        n: usize,
-        intervals: &[u16],
-        edges: &[u16],
-        edge_count: usize,
+        tables: &Lent<'_>,
         party: usize,
         mode: Mode,
         names: &[u16],
         name_count: usize,
-    ) -> EnterStep
-        ensures { Enters result (enter_step (lent n intervals.now edges.now edge_count) self party mode names.now name_count) }
+    ) -> Step<EnterAnswer>
+        ensures { Enters result (enter_step (lent_in tables.now) self party mode names.now name_count) }
     {
-        let k = self.judge(
-            n,
-            intervals,
-            edges,
-            edge_count,
-            party,
-            names.len() < name_count,
-        );
-        if k != 0 {
-            return EnterStep {
+        if let Err(k) = self.judge_enter(tables, party, names, name_count) {
+            return Step {
                 desk: self,
                 answer: EnterAnswer::Refused(k),
             };
         }
-        let entries = self.entries;
-        let s = parties::stage(entries, party);
-        if !locks::is_out(s) {
-            return EnterStep {
-                desk: self,
-                answer: EnterAnswer::Refused(12),
+        let l = locks::lock_called(
+            tables.n as u16,
+            tables.intervals,
+            mode,
+            &names[..name_count],
+        );
+        let cover = usize::from(l.cover);
+        if parties::is_free(self.entries, l) {
+            return Step {
+                desk: self.granted(party, l),
+                answer: EnterAnswer::Granted(cover),
             };
         }
-        if locks::names_wrong(n, names, name_count) {
-            return EnterStep {
-                desk: self,
-                answer: EnterAnswer::Refused(15),
-            };
-        }
-        let l = locks::lock_called(n as u16, intervals, mode, &names[..name_count]);
-        let c = l.cover as usize;
-        if parties::is_free(entries, l) {
-            let d = self.granted(party, l);
-            return EnterStep {
-                desk: d,
-                answer: EnterAnswer::Granted(c),
-            };
-        }
-        let d = self.queued(party, l);
-        EnterStep {
-            desk: d,
+        Step {
+            desk: self.queued(party, l),
             answer: EnterAnswer::Waits,
         }
     }
 
     // A party that holds for reading or writing reads the value of a node in the reach of a name of its visit.
+    #[tactic(auto, unfolding(crate::specs::Steps::get_step))]
     pub fn get(
         self,
-        n: usize,
-        intervals: &[u16],
-        edges: &[u16],
-        edge_count: usize,
+        tables: &Lent<'_>,
         party: usize,
         node: usize,
         values: &[u64],
         scratch: &mut [u8],
-    ) -> GetStep
-        ensures { Gets result scratch.new (get_step (lent n intervals.now edges.now edge_count) self party node values.now scratch.old) }
+    ) -> Step<GetAnswer>
+        ensures { Gets result scratch.new (get_step (lent_in tables.now) self party node values.now scratch.old) }
     {
-        let few = values.len() < n;
-        let k = self.judge_value(n, intervals, edges, edge_count, party, node, few, scratch);
-        if k == 14 {
-            return GetStep {
-                desk: self,
-                answer: GetAnswer::Waiting,
-            };
-        }
-        if k != 0 {
-            return GetStep {
-                desk: self,
-                answer: GetAnswer::Refused(k),
-            };
-        }
-        let entries = self.entries;
-        let stage = parties::stage(entries, party);
-        if locks::adds_only(stage) {
-            return GetStep {
-                desk: self,
-                answer: GetAnswer::Refused(18),
-            };
-        }
-        let value = values[node];
-        GetStep {
-            desk: self,
-            answer: GetAnswer::Value(value),
-        }
+        let few = values.len() < tables.n;
+        let answer = match self.judge_value(tables, party, node, Access::Get, few, scratch) {
+            Ok(()) => GetAnswer::Value(values[node]),
+            Err(Refusal::IsWaiting) => GetAnswer::Waiting,
+            Err(k) => GetAnswer::Refused(k),
+        };
+        Step { desk: self, answer }
     }
 
     // A party that holds for writing replaces the value of a node in the reach of a name of its visit.
+    #[tactic(auto, unfolding(crate::specs::Steps::put_step))]
     pub fn put(
         self,
-        n: usize,
-        intervals: &[u16],
-        edges: &[u16],
-        edge_count: usize,
+        tables: &Lent<'_>,
         party: usize,
         node: usize,
         value: u64,
         values: &mut [u64],
         scratch: &mut [u8],
-    ) -> PutStep
-        ensures { Puts result values.new scratch.new (put_step (lent n intervals.now edges.now edge_count) self party node value values.old scratch.old) }
+    ) -> Step<Result<(), Refusal>>
+        ensures { Puts result values.new scratch.new (put_step (lent_in tables.now) self party node value values.old scratch.old) }
     {
-        let few = values.len() < n;
-        let k = self.judge_value(n, intervals, edges, edge_count, party, node, few, scratch);
-        if k != 0 {
-            return PutStep {
-                desk: self,
-                answer: PutAnswer::Refused(k),
-            };
-        }
-        let entries = self.entries;
-        let s = parties::stage(entries, party);
-        if locks::reads_only(s) {
-            return PutStep {
-                desk: self,
-                answer: PutAnswer::Refused(17),
-            };
-        }
-        if locks::adds_only(s) {
-            return PutStep {
-                desk: self,
-                answer: PutAnswer::Refused(18),
-            };
-        }
-        values[node] = value;
-        PutStep {
-            desk: self,
-            answer: PutAnswer::Stored,
-        }
+        self.change(tables, party, node, Access::Put(value), values, scratch)
     }
 
     // A party that holds for adding adds to the value of a node in the reach of a name of its visit, modulo 2 to the 64.
+    #[tactic(auto, unfolding(crate::specs::Steps::add_step))]
     pub fn add(
         self,
-        n: usize,
-        intervals: &[u16],
-        edges: &[u16],
-        edge_count: usize,
+        tables: &Lent<'_>,
         party: usize,
         node: usize,
         number: u64,
         values: &mut [u64],
         scratch: &mut [u8],
-    ) -> AddStep
-        ensures { Adds result values.new scratch.new (add_step (lent n intervals.now edges.now edge_count) self party node number values.old scratch.old) }
+    ) -> Step<Result<(), Refusal>>
+        ensures { Adds result values.new scratch.new (add_step (lent_in tables.now) self party node number values.old scratch.old) }
     {
-        let few = values.len() < n;
-        let k = self.judge_value(n, intervals, edges, edge_count, party, node, few, scratch);
-        if k != 0 {
-            return AddStep {
-                desk: self,
-                answer: AddAnswer::Refused(k),
-            };
-        }
-        let entries = self.entries;
-        let s = parties::stage(entries, party);
-        if !locks::adds_only(s) {
-            return AddStep {
-                desk: self,
-                answer: AddAnswer::Refused(18),
-            };
-        }
-        let old = values[node];
-        values[node] = sum(old, number);
-        AddStep {
-            desk: self,
-            answer: AddAnswer::Added,
-        }
+        self.change(tables, party, node, Access::Add(number), values, scratch)
     }
 
     // A party gives up its hold or its call; waiters are then granted in arrival order, and listed.
+    #[tactic(auto, unfolding(crate::specs::Steps::leave_step))]
     pub fn leave(
         self,
-        n: usize,
-        intervals: &[u16],
-        edges: &[u16],
-        edge_count: usize,
+        tables: &Lent<'_>,
         party: usize,
         list: &mut [u8],
-    ) -> LeaveStep
-        ensures { Leaves result list.new (leave_step (lent n intervals.now edges.now edge_count) self party list.old) }
+    ) -> Step<Result<usize, Refusal>>
+        ensures { Leaves result list.new (leave_step (lent_in tables.now) self party list.old) }
     {
-        let k = self.judge(n, intervals, edges, edge_count, party, list.len() < PARTIES);
-        if k != 0 {
-            return LeaveStep {
+        if let Err(k) = self.judge_leave(tables, party, list) {
+            return Step {
                 desk: self,
-                answer: LeaveAnswer::Refused(k),
+                answer: Err(k),
             };
         }
-        let entries = self.entries;
-        let s = parties::stage(entries, party);
-        if locks::is_out(s) {
-            return LeaveStep {
-                desk: self,
-                answer: LeaveAnswer::Refused(13),
-            };
-        }
-        let places = self.queue;
-        let count = self.waiting;
-        let swept = sweeps::leaving(entries, Listed { places, count }, party);
-        let granted = swept.granted;
-        let first = granted.places;
-        let left = granted.count;
-        put_list(&first, left, list);
-        let next = self.after(swept);
-        LeaveStep {
-            desk: next,
-            answer: LeaveAnswer::Left(left),
+        let swept = sweeps::leaving(self.entries, self.list(), party);
+        put_list(&swept.granted.places, swept.granted.count, list);
+        Step {
+            desk: self.after(swept),
+            answer: Ok(swept.granted.count),
         }
     }
 }

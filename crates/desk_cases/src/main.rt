@@ -7,7 +7,10 @@
 ghost use Rattle.std.specs.Prelude.{length, ◌≡◌};
 
 use arrivals::PARTIES;
-use desk::{Desk, EnterAnswer, LeaveAnswer};
+use desk::{Desk, EnterAnswer};
+use hierarchy::EdgeTable;
+use locks::Lent;
+use refusals::Refusal;
 use std::io::Write;
 
 // The numbers of a line that both steps take; how many names or bytes are lent, and of enter the name count and the mode.
@@ -49,95 +52,80 @@ fn taken(line: &[u8]) -> Call {
 fn table(line: &[u8], part: usize, count: usize) -> [u16; 2050]
     ensures { 2050 ≡ length result }
 {
-    let end = count % 2051;
     let mut places = [0u16; 2050];
-    let mut i = 0;
-    while i < end {
-        places[i] = (octets::byte(line, part % 3 * 23 + i % 22 + 6) % 16) as u16;
-        i += 1;
+    for i in 0..count % 2051 {
+        places[i] = u16::from(octets::byte(line, part % 3 * 23 + i % 22 + 6) % 16);
     }
     places
+}
+
+// The hierarchy that a line lends.
+fn lent<'a>(c: Call, intervals: &'a [u16], edges: &'a [u16]) -> Lent<'a> {
+    Lent {
+        n: c.n,
+        intervals,
+        edges: EdgeTable {
+            numbers: edges,
+            count: c.edge_count,
+        },
+    }
 }
 
 // ANSWERS are said, by the place of their word in `say`. What enter answered; with waiting goes how many wait.
 fn entered<W: Write>(out: &mut W, answer: EnterAnswer, waiting: usize) {
     match answer {
         EnterAnswer::Waits => say(out, 0, waiting as u64),
-        EnterAnswer::Refused(k) => say(out, 1, k as u64),
+        EnterAnswer::Refused(k) => say_refused(out, k),
         EnterAnswer::Granted(cover) => say(out, 2, cover as u64),
     }
 }
 
 // What leave answered: the count of the granted.
-fn left<W: Write>(out: &mut W, answer: LeaveAnswer) {
+fn left<W: Write>(out: &mut W, answer: Result<usize, Refusal>) {
     match answer {
-        LeaveAnswer::Refused(k) => say(out, 1, k as u64),
-        LeaveAnswer::Left(count) => say(out, 3, count as u64),
+        Err(k) => say_refused(out, k),
+        Ok(count) => say(out, 3, count as u64),
     }
+}
+
+// A refusal, by its number.
+fn say_refused<W: Write>(out: &mut W, k: Refusal) {
+    say(out, 1, u64::from(k.number()));
 }
 
 // Says an answer: its word, then its number.
 fn say<W: Write>(out: &mut W, word: usize, number: u64) {
     let words = *b":   waits : refused : granted :    left ";
     let at = word % 4 * 10;
-    let end = at + 10;
-    streams::write_all(out, &words[at..end]);
-    streams::print_decimal(out, number);
+    let _ = streams::write_all(out, &words[at..at + 10]);
+    let _ = streams::print_decimal(out, number);
 }
 
 // Says what a list holds.
 fn say_list<W: Write>(out: &mut W, list: &[u8; 34]) {
-    let mut i = 0;
-    while i < 34 {
-        streams::write_all(out, b" ");
-        streams::print_decimal(out, octets::byte(list, i) as u64);
-        i += 1;
+    for x in list {
+        let _ = streams::write_all(out, b" ");
+        let _ = streams::print_decimal(out, u64::from(*x));
     }
 }
 
 // STEPS. Enters, with so many names lent, a name count and a mode: 1 reading, 3 adding, any other writing.
-fn enter<W: Write>(
-    out: &mut W,
-    line: &[u8],
-    c: Call,
-    desk: Desk,
-    intervals: &[u16],
-    edges: &[u16],
-) -> Desk {
+fn enter<W: Write>(out: &mut W, line: &[u8], c: Call, desk: Desk, tables: &Lent<'_>) -> Desk {
     let lent = c.lent % 11;
     let names = table(line, 2, lent);
     let mode = locks::mode_when(c.mode == 1, c.mode != 3);
-    let step = desk.enter(
-        c.n,
-        intervals,
-        edges,
-        c.edge_count,
-        c.party,
-        mode,
-        &names[0..lent],
-        c.name_count,
-    );
-    let answer = step.answer;
-    let next = step.desk;
-    entered(out, answer, next.waiting);
-    next
+    let step = desk.enter(tables, c.party, mode, &names[..lent], c.name_count);
+    entered(out, step.answer, step.desk.waiting);
+    step.desk
 }
 
 // Leaves, with so many bytes lent of a list that holds 9 everywhere; says the list, then the count of the granted.
-fn leave<W: Write>(out: &mut W, c: Call, desk: Desk, intervals: &[u16], edges: &[u16]) -> Desk {
+fn leave<W: Write>(out: &mut W, c: Call, desk: Desk, tables: &Lent<'_>) -> Desk {
     let mut list = [9u8; 34];
     let lent = c.lent % 35;
-    let step = desk.leave(
-        c.n,
-        intervals,
-        edges,
-        c.edge_count,
-        c.party,
-        &mut list[0..lent],
-    );
-    let answer = step.answer;
+    let step = desk.leave(tables, c.party, &mut list[..lent]);
     say_list(out, &list);
-    left(out, answer);
+    left(out, step.answer);
     step.desk
 }
 
@@ -151,14 +139,13 @@ fn by_hand(c: Call, desk: Desk) -> Desk {
 
 // The desk with another count of grants, so many below the largest number: of a party, or of all for a number over 31.
 fn counts(c: Call, desk: Desk) -> Desk {
-    let count = 4294967295 - (c.lent % 65536) as u32;
-    let party = c.party;
+    let count = u32::MAX - (c.lent % 65536) as u32;
     let mut d = desk;
-    if party < PARTIES {
-        d.grants[party] = count;
-        return d;
+    if c.party < PARTIES {
+        d.grants[c.party] = count;
+    } else {
+        d.grants.fill(count);
     }
-    d.grants = [count; PARTIES];
     d
 }
 
@@ -166,22 +153,15 @@ fn counts(c: Call, desk: Desk) -> Desk {
 fn show<W: Write>(out: &mut W, desk: Desk) -> Desk {
     let mut text = [b'\n'; 800];
     let end = texts::put_end(desk, 1, &mut text) % 801;
-    streams::write_all(out, &text[0..end]);
+    let _ = streams::write_all(out, &text[..end]);
     desk
 }
 
 // ALL LINES. The desk as a line leaves it, with so much of the tables lent.
-fn perform<W: Write>(
-    out: &mut W,
-    line: &[u8],
-    c: Call,
-    desk: Desk,
-    intervals: &[u16],
-    edges: &[u16],
-) -> Desk {
+fn perform<W: Write>(out: &mut W, line: &[u8], c: Call, desk: Desk, tables: &Lent<'_>) -> Desk {
     match octets::byte(line, 0) {
-        b'e' => enter(out, line, c, desk, intervals, edges),
-        b'l' => leave(out, c, desk, intervals, edges),
+        b'e' => enter(out, line, c, desk, tables),
+        b'l' => leave(out, c, desk, tables),
         b'd' => by_hand(c, desk),
         b'c' => counts(c, desk),
         b's' => show(out, desk),
@@ -197,7 +177,8 @@ fn answer<W: Write>(out: &mut W, line: &[u8], desk: Desk) -> Desk {
     let intervals = table(line, 0, places);
     let ends = c.ends % 2051;
     let edges = table(line, 1, ends);
-    perform(out, line, c, desk, &intervals[0..places], &edges[0..ends])
+    let tables = lent(c, &intervals[..places], &edges[..ends]);
+    perform(out, line, c, desk, &tables)
 }
 
 // Each line is written out, then what it asks for is done.
@@ -208,9 +189,9 @@ fn run<W: Write>(out: &mut W, text: &[u8]) {
         let end = streams::line_end(text, at);
         let line = &text[at..end];
         at = end + 1;
-        streams::write_all(out, line);
+        let _ = streams::write_all(out, line);
         desk = answer(out, line, desk);
-        streams::write_all(out, b"\n");
+        let _ = streams::write_all(out, b"\n");
     }
 }
 
@@ -218,5 +199,5 @@ fn run<W: Write>(out: &mut W, text: &[u8]) {
 fn main(rt: HostRuntime) {
     let mut text = [0u8; 65536];
     let n = streams::read_full(&mut rt.stdin(), &mut text);
-    run(&mut rt.stdout(), &text[0..n]);
+    run(&mut rt.stdout(), &text[..n]);
 }

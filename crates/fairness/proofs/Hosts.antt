@@ -12,7 +12,8 @@ use Rattle.locks.specs.declared.Mode.{Mode}
 use Rattle.locks.specs.declared.Stage.TheVariants.{Holding}
 use Rattle.locks.specs.Lent.{Hierarchy, lock_for}
 use Rattle.desk.specs.declared.Desk.{Desk}
-use Rattle.desk.specs.declared.EnterStep.{EnterStep}
+use Rattle.desk.specs.declared.EnterAnswer.{EnterAnswer}
+use Rattle.desk.specs.declared.Step.{Step as DeskStep}
 use Rattle.desk.specs.declared.EnterAnswer.TheVariants.{Waits}
 use Rattle.desk.specs.Desks.{stage_at}
 use Rattle.desk.specs.Steps.{waits, enter_step, get_step, put_step, add_step}
@@ -75,7 +76,7 @@ calls_run H (c ∷ cs) d (m, k) = rw (call_moves H c.tables d c.result m, calls_
 
 -- THE THEOREM OF RESULTS: an enter hands back its desk and answers `Waits`, any calls follow, and each result meets the contract of its method on the desk that the call
 -- before handed back, with any tables and buffers: where those ahead have left, by these very answers, the party holds at the last desk, unless it left
-module _ (K : Hierarchy) (d : Desk) (shape : Shaped d) (p : ℕ) (mode : Mode) (names : List ℕ) (name_count : ℕ) (r : EnterStep) (met : Enters r (enter_step K d p mode names name_count))
+module _ (K : Hierarchy) (d : Desk) (shape : Shaped d) (p : ℕ) (mode : Mode) (names : List ℕ) (name_count : ℕ) (r : DeskStep EnterAnswer) (met : Enters r (enter_step K d p mode names name_count))
     (answered : r.answer ≡ Waits) (calls : List HostCall) (all_met : CallsMeet r.desk calls) where
   abbrev first : State
   first = between K r.desk []

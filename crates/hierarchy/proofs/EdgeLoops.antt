@@ -1,17 +1,17 @@
 -- The turns of a loop over an edge table: what is left of the table from edge e on, and what holds at each of its places. Assumes nothing.
-use mathlib.Core.Path.{◌≡◌, refl, sym, ap, ◌∙◌, subst}
+use mathlib.Core.Path.{◌≡◌, refl, ap, ◌∙◌, subst}
 use mathlib.Core.List.{List, [], ◌∷◌}
-use mathlib.Core.Bool.{Bool, true, false, not, ◌||◌}
+use mathlib.Core.Bool.{Bool}
 use Prim.Native.Nat.{ℕ, zero, suc, ◌+◌, ◌*◌, ◌/◌, ◌≤◌, ◌<◌, min}
 use native.Mathlib.Omega.{arith}
 use lib.Dec.{eqb}
 use lib.ListN.{length, get_or, drop, length-take, length-drop}
 use lib.Seq.{drop-cons, get_or-take}
 use borrow.Author.Tests.{eqb-true, eq-eqb, ne_eqb}
-use Rattle.lists.specs.Lists.{kept_if, set_if}
+use Rattle.lists.specs.Lists.{kept_if}
 use Rattle.lists.proofs.Bools.{bool}
 use Rattle.lists.proofs.Members.{In, head, in_nil, in_cons, kept_in}
-use Rattle.hierarchy.specs.Hierarchy.{edges_of, children, some_edge, Edge, same_edge, edge_twice, spread}
+use Rattle.hierarchy.specs.Hierarchy.{edges_of, children, Edge}
 use Rattle.hierarchy.specs.Hierarchy.Edge.{first, later}
 use Rattle.hierarchy.specs.Inner.{ends_at, Edges}
 use Rattle.hierarchy.specs.declared.Ends.{Ends}
@@ -80,55 +80,12 @@ module _ (edges : List ℕ) (count e : ℕ) (h : e < min count (length edges / 2
   unfolding children
   rest_child node d = ap (λ (t : List ℕ). children t node) rest_cons ∙ rw (eq-eqb parent node d)
 
-  pub rest_some : (p : ℕ → ℕ → Bool) → some_edge p (rest edges count e) ≡ (p parent child || some_edge p (rest edges count (e + 1)))
-  unfolding some_edge
-  rest_some p = ap (some_edge p) rest_cons
-
-  pub some_stop : (p : ℕ → ℕ → Bool) {r : Bool} (ends : Ends) → some_edge p (rest edges count e) ≡ r → ends ≡ ends_at edges e
-      → p ends.parent ends.child ≡ true → true ≡ r
-  some_stop p ends inv at q =
-      let t = ap (λ (x : Ends). p x.parent x.child) (sym at) ∙ q in
-      rw t at (sym (rest_some p) ∙ inv)
-
-  pub some_next : (p : ℕ → ℕ → Bool) {r : Bool} (ends : Ends) → some_edge p (rest edges count e) ≡ r → ends ≡ ends_at edges e
-      → p ends.parent ends.child ≡ false → some_edge p (rest edges count (e + 1)) ≡ r
-  some_next p ends inv at q =
-      let t = ap (λ (x : Ends). p x.parent x.child) (sym at) ∙ q in
-      rw t at (sym (rest_some p) ∙ inv)
-
-  pub rest_twice : edge_twice (rest edges count e) ≡ (some_edge (same_edge parent child) (rest edges count (e + 1)) || edge_twice (rest edges count (e + 1)))
-  unfolding edge_twice
-  rest_twice = ap edge_twice rest_cons
-
-  pub rest_spread : (flags : List ℕ)
-      → spread (rest edges count e) flags ≡ spread (rest edges count (e + 1)) (set_if (not (eqb (get_or flags parent 0) 0)) flags child 1)
-  unfolding spread
-  rest_spread flags = ap (λ (t : List ℕ). spread t flags) rest_cons
-
 -- a list too short for an edge
 few_children : (l : List ℕ) (node : ℕ) → length l ≤ 1 → children l node ≡ []
 unfolding children
 few_children [] node h = refl
 few_children (a ∷ []) node h = refl
 few_children (a ∷ b ∷ l) node h = absurd (omega arith)
-
-few_some : (p : ℕ → ℕ → Bool) (l : List ℕ) → length l ≤ 1 → some_edge p l ≡ false
-unfolding some_edge
-few_some p [] h = refl
-few_some p (a ∷ []) h = refl
-few_some p (a ∷ b ∷ l) h = absurd (omega arith)
-
-few_twice : (l : List ℕ) → length l ≤ 1 → edge_twice l ≡ false
-unfolding edge_twice
-few_twice [] h = refl
-few_twice (a ∷ []) h = refl
-few_twice (a ∷ b ∷ l) h = absurd (omega arith)
-
-few_spread : (l flags : List ℕ) → length l ≤ 1 → spread l flags ≡ flags
-unfolding spread
-few_spread [] flags h = refl
-few_spread (a ∷ []) flags h = refl
-few_spread (a ∷ b ∷ l) flags h = absurd (omega arith)
 
 -- past the last whole edge nothing is left
 module _ (edges : List ℕ) (count e : ℕ) (h : min count (length edges / 2) ≤ e) where
@@ -137,15 +94,6 @@ module _ (edges : List ℕ) (count e : ℕ) (h : min count (length edges / 2) �
 
   pub end_children : (node : ℕ) → children (rest edges count e) node ≡ []
   end_children node = few_children (rest edges count e) node few
-
-  pub end_some : (p : ℕ → ℕ → Bool) → some_edge p (rest edges count e) ≡ false
-  end_some p = few_some p (rest edges count e) few
-
-  pub end_twice : edge_twice (rest edges count e) ≡ false
-  end_twice = few_twice (rest edges count e) few
-
-  pub end_spread : (flags : List ℕ) → spread (rest edges count e) flags ≡ flags
-  end_spread flags = few_spread (rest edges count e) flags few
 
 -- the ends of an edge that a loop reads are below n
 module _ (n count : ℕ) (edges : List ℕ) (fits : Edges n count edges) (e : ℕ) (h : e < count) where

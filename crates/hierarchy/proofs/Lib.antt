@@ -2,6 +2,6 @@
 pub mod EdgeLoops
 pub mod Reaches
 pub mod Legals
-pub mod Judges
+pub mod Pairs
 pub mod Spreads
 pub mod Unions

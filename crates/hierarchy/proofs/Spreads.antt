@@ -1,79 +1,93 @@
 -- Flags that are spread over the edges until nothing changes. Assumes nothing.
 use mathlib.Core.Path.{◌≡◌, refl, sym, ap, subst, ◌∙◌}
 use mathlib.Core.List.{List, [], ◌∷◌}
-use mathlib.Core.Bool.{Bool, true, false, not}
-use Prim.Native.Nat.{ℕ, zero, suc, ◌+◌, ◌/◌, ◌≤◌, ◌<◌, min}
+use mathlib.Core.Bool.{Bool, true, false, not, ◌&&◌, ◌||◌, or-true, or-false}
+use Prim.Native.Nat.{ℕ, zero, suc, ◌+◌, ◌≤◌, ◌<◌}
 use native.Mathlib.Omega.{arith}
 use lib.Dec.{eqb, ltb}
 use lib.ListN.{length, get_or, set, drop, length-set, drop_of_length-le}
 use lib.Seq.{set-get_or, set_out, ext_get_or}
 use borrow.Author.Tests.{eqb-true, eqb-false, ltb-true, ltb-false, not-true}
-use Rattle.hierarchy.specs.Hierarchy.{Edge, edges_of, flagged, flag_all, spread, spreads}
-use Rattle.hierarchy.specs.Inner.{ends_at, unflagged, On, Stable, Grown}
+use Rattle.hierarchy.specs.Hierarchy.{Edge, flagged, flag_all, spread, spreads}
+use Rattle.hierarchy.specs.Inner.{unflagged, On, Stable, Grown}
 use Rattle.lists.specs.Lists.{one_if, zeros, Went, Below, set_if}
-use Rattle.hierarchy.specs.declared.Ends.{Ends}
 use Rattle.lists.proofs.Bools.{bool, not_both, and_left, and_right}
 use Rattle.lists.proofs.Marks.{zeros_fall, set_get}
-use Rattle.hierarchy.proofs.EdgeLoops.{edge_here, rest, rest_spread, end_spread}
+use Rattle.hierarchy.proofs.Pairs.{pass}
 use Rattle.hierarchy.proofs.Reaches.{spread_long, spread_on, spread_edge, new_flag, spread_only, spreads_long, less_zeros, spreads_enough, spreads_on, spreads_only}
 use Rattle.lists.proofs.Loops.{get_d_any, drop_step}
 use Rattle.lists.proofs.Passes.{went_on, went_less}
 
 -- a pass at its edge e
-pub record Spreading (edges : List ℕ) (count : ℕ) (flags₀ : List ℕ) (e : ℕ) (changed : Bool) (flags : List ℕ) : Type 0 where
-  pub so_far : e ≤ min count (length edges / 2)
+pub record Spreading (es : List (List ℕ)) (flags₀ : List ℕ) (e : ℕ) (changed : Bool) (flags : List ℕ) : Type 0 where
   pub long : length flags ≡ length flags₀
   pub bits : Below 2 flags
-  pub same : spread (rest edges count e) flags ≡ spread (edges_of edges count) flags₀
+  pub same : pass (drop e es) flags ≡ pass es flags₀
   pub went : Went zeros changed flags₀ flags
 
-pub spreading_start : (edges : List ℕ) (count : ℕ) (flags : List ℕ) → Below 2 flags → Spreading edges count flags 0 false flags
-spreading_start edges count flags b = record { so_far = omega arith; long = refl; bits = b; same = refl; went = refl }
+pub spreading_start : (es : List (List ℕ)) (flags : List ℕ) → Below 2 flags → Spreading es flags 0 false flags
+spreading_start es flags b = record { long = refl; bits = b; same = refl; went = refl }
 
-module _ (edges : List ℕ) (count : ℕ) (flags₀ : List ℕ) (e : ℕ) (changed : Bool) (flags : List ℕ) (k : Spreading edges count flags₀ e changed flags) where
-  module _ (h : e < min count (length edges / 2)) (ends : Ends) (at : ends ≡ ends_at edges e) where
+module _ (es : List (List ℕ)) (flags₀ : List ℕ) (e : ℕ) (changed : Bool) (flags : List ℕ) (k : Spreading es flags₀ e changed flags) where
+  module _ (h : e < length es) where
+    abbrev parent : ℕ
+    parent = get_or (get_or es e []) 0 0
+
+    abbrev child : ℕ
+    child = get_or (get_or es e []) 1 0
+
     -- what is left, by what the turn reads
-    turned : spread (rest edges count (e + 1)) (set_if (flagged flags ends.parent) flags ends.child 1) ≡ spread (edges_of edges count) flags₀
-    turned = rw at (sym (rest_spread edges count e h flags)) ∙ k.same
+    turned : pass (drop (e + 1) es) (set_if (flagged flags parent) flags child 1) ≡ pass es flags₀
+    unfolding pass
+    turned = sym (ap (λ (t : List (List ℕ)). pass t flags) (drop_step es e [] refl h)) ∙ k.same
 
-    pub spreading_none : flagged flags ends.parent ≡ false → Spreading edges count flags₀ (e + 1) changed flags
-    spreading_none z = record { so_far = omega arith; long = k.long; bits = k.bits; same = rw z at turned; went = k.went }
+    spreading_none : flagged flags parent ≡ false → Spreading es flags₀ (e + 1) changed flags
+    spreading_none z = record { long = k.long; bits = k.bits; same = rw z at turned; went = k.went }
 
-    module _ (on : flagged flags ends.parent ≡ true) where
-      pub spreading_new : unflagged flags ends.child ≡ true → Spreading edges count flags₀ (e + 1) true (set flags ends.child 1)
+    module _ (on : flagged flags parent ≡ true) where
+      spreading_new : unflagged flags child ≡ true → Spreading es flags₀ (e + 1) true (set flags child 1)
       spreading_new u =
-          let l : ends.child < length flags = ltb-true _ _ (and_left (ltb ends.child (length flags)) (eqb (get_or flags ends.child 0) 0) u) in
-          let z : get_or flags ends.child 0 ≡ 0 = eqb-true _ _ (and_right (ltb ends.child (length flags)) (eqb (get_or flags ends.child 0) 0) u) in
-          let f = zeros_fall flags ends.child 1 0 (get_d_any flags ends.child 1 0 l ∙ z) (omega arith) in
+          let l : child < length flags = ltb-true _ _ (and_left (ltb child (length flags)) (eqb (get_or flags child 0) 0) u) in
+          let z : get_or flags child 0 ≡ 0 = eqb-true _ _ (and_right (ltb child (length flags)) (eqb (get_or flags child 0) 0) u) in
+          let f = zeros_fall flags child 1 0 (get_d_any flags child 1 0 l ∙ z) (omega arith) in
           record {
-            so_far = omega arith;
-            long = length-set flags ends.child 1 ∙ k.long;
-            bits = λ i. set_get (λ (v : ℕ). v < 2) flags ends.child 1 i 0 (omega arith) (k.bits i);
+            long = length-set flags child 1 ∙ k.long;
+            bits = λ i. set_get (λ (v : ℕ). v < 2) flags child 1 i 0 (omega arith) (k.bits i);
             same = rw on at turned;
-            went = went_on zeros changed flags₀ flags (set flags ends.child 1) k.went (omega arith);
+            went = went_on zeros changed flags₀ flags (set flags child 1) k.went (omega arith);
           }
 
       -- a child that has its flag, or is not among the flags, changes nothing
-      as_is : unflagged flags ends.child ≡ false → set flags ends.child 1 ≡ flags
+      as_is : unflagged flags child ≡ false → set flags child 1 ≡ flags
       as_is u =
-          bool (ltb ends.child (length flags))
-          (λ q. let d = eqb-false (get_or flags ends.child 0) 0 (rw q at u) in
-          let one : get_or flags ends.child 0 ≡ 1 = omega (arith, k.bits ends.child, d) in
-          ap (set flags ends.child) (sym one) ∙ set-get_or flags ends.child 0)
-          (λ q. set_out flags ends.child 1 (ltb-false ends.child (length flags) q))
+          bool (ltb child (length flags))
+          (λ q. let d = eqb-false (get_or flags child 0) 0 (rw q at u) in
+          let one : get_or flags child 0 ≡ 1 = omega (arith, k.bits child, d) in
+          ap (set flags child) (sym one) ∙ set-get_or flags child 0)
+          (λ q. set_out flags child 1 (ltb-false child (length flags) q))
 
-      pub spreading_old : unflagged flags ends.child ≡ false → Spreading edges count flags₀ (e + 1) changed flags
+      spreading_old : unflagged flags child ≡ false → Spreading es flags₀ (e + 1) changed (set flags child 1)
       spreading_old u =
+          rw (as_is u)
           record {
-            so_far = omega arith;
             long = k.long;
             bits = k.bits;
-            same = ap (spread (rest edges count (e + 1))) (sym (as_is u)) ∙ (rw on at turned);
+            same = ap (pass (drop (e + 1) es)) (sym (as_is u)) ∙ (rw on at turned);
             went = k.went;
           }
 
-  pub spreading_end : min count (length edges / 2) ≤ e → flags ≡ spread (edges_of edges count) flags₀
-  spreading_end h = sym (end_spread edges count e h flags) ∙ k.same
+    -- the edge is followed
+    pub spreading_on : Spreading es flags₀ (e + 1) (changed || flagged flags parent && unflagged flags child) (set_if (flagged flags parent) flags child 1)
+    spreading_on =
+        bool (flagged flags parent)
+        (λ on. bool (unflagged flags child)
+        (λ u. rw (on, u, or-true changed) (spreading_new on u))
+        (λ u. rw (on, u, or-false changed) (spreading_old on u)))
+        (λ off. rw (off, or-false changed) (spreading_none off))
+
+  pub spreading_end : length es ≤ e → flags ≡ pass es flags₀
+  unfolding pass
+  spreading_end h = rw (drop_of_length-le es h) at k.same
 
 -- THE PASSES: flags stay 0 or 1
 
@@ -107,14 +121,19 @@ module _ (es : List ℕ) where
       }
 
   -- where the parent is flagged, the child is
-  grown_flag : (flags₀ flags : List ℕ) (p c : ℕ) → Grown es flags₀ flags → Edge es p c → On flags p → Grown es flags₀ (set flags c 1)
-  grown_flag flags₀ flags p c g e h =
+  grown_flag : (flags₀ flags : List ℕ) (p c : ℕ) → Grown es flags₀ flags → Edge es p c → flagged flags p ≡ true → Grown es flags₀ (set flags c 1)
+  grown_flag flags₀ flags p c g e on =
+      let d = eqb-false (get_or flags p 0) 0 (not-true (eqb (get_or flags p 0) 0) on) in
+      let h : On flags p = omega (arith, d) in
       record {
         long = length-set flags c 1 ∙ g.long;
         bits = λ i. set_get (λ (v : ℕ). v < 2) flags c 1 i 0 (omega arith) (g.bits i);
         more = λ x o. set_get (λ (v : ℕ). 1 ≤ v) flags c 1 x 0 (omega arith) (g.more x o);
         within = λ s t f x o. new_flag (On s) flags c x (length flags₀) g.long o (λ r. t p c e r (g.within s t f p h)) (g.within s t f);
       }
+
+  pub grown_follow : (flags₀ flags : List ℕ) (p c : ℕ) → Grown es flags₀ flags → Edge es p c → Grown es flags₀ (set_if (flagged flags p) flags c 1)
+  grown_follow flags₀ flags p c g e = bool (flagged flags p) (λ on. rw on (grown_flag flags₀ flags p c g e on)) (λ off. rw off g)
 
   -- a pass from the first edge on
   grown_spread : (flags : List ℕ) → Below 2 flags → Grown es flags (spread es flags)
@@ -151,14 +170,6 @@ module _ (es : List ℕ) where
     reaching_less on b t w =
         let h : one_if b (zeros flags') < one_if true (zeros back) = went_less zeros true b back flags' refl w in
         rw t (omega (arith, h, less_zeros flags back g.long g.more))
-
--- a turn of a pass in any order, at edge e
-pub grown_turn : (edges : List ℕ) (count : ℕ) (flags₀ flags : List ℕ) (e : ℕ) (ends : Ends) → e < min count (length edges / 2) → ends ≡ ends_at edges e
-    → Grown (edges_of edges count) flags₀ flags → flagged flags ends.parent ≡ true → Grown (edges_of edges count) flags₀ (set flags ends.child 1)
-grown_turn edges count flags₀ flags e ends h at g on =
-    let d = eqb-false (get_or flags ends.parent 0) 0 (not-true (eqb (get_or flags ends.parent 0) 0) on) in
-    let edge = subst (λ (x : Ends). Edge (edges_of edges count) x.parent x.child) (sym at) (edge_here edges count e h) in
-    grown_flag (edges_of edges count) flags₀ flags ends.parent ends.child g edge (omega (arith, d))
 
 -- numbers that are 0 or 1 are the same where the one is 1 just when the other is
 same_bit : (a b : ℕ) → a < 2 → b < 2 → (1 ≤ a → 1 ≤ b) → (1 ≤ b → 1 ≤ a) → a ≡ b

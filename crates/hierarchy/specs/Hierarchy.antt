@@ -3,11 +3,16 @@ use Rattle.std.specs.Prelude.{◌≡◌, List, [], ◌∷◌, Bool, false, not, 
 use Rattle.std.proofs.Math.Option.{none}
 use Rattle.lists.specs.Lists.{kept_if, set_if, any}
 use Rattle.lists.specs.Answer.{Check, ◌when◌, refusal}
+use Rattle.hierarchy.specs.declared.EdgeTable.{EdgeTable}
 
 -- an edge table has two numbers an edge, parent and child, and its edge count is given beside it: the edges in it. A table that is shorter than its
 -- count has those that it has, and an odd last number is no edge
 abbrev pub edges_of : List ℕ → ℕ → List ℕ
 edges_of table edge_count = take (2 * edge_count) table
+
+-- the edges of an edge table as the code has it
+abbrev pub edges_in : EdgeTable → List ℕ
+edges_in table = edges_of table.numbers.now table.count
 
 -- the children of a node, in table order
 unfoldable pub children : List ℕ → ℕ → List ℕ

@@ -1,5 +1,6 @@
 -- Terms of the contracts of private functions, and of `edge_at`: no definition of the paper is here. Assumes nothing.
-use Rattle.std.specs.Prelude.{◌≡◌, Bool, ◌&&◌, List, ℕ, ◌+◌, ◌*◌, ◌<◌, ◌≤◌, eqb, ltb, length, get_or}
+use Rattle.std.specs.Prelude.{◌≡◌, Bool, ◌&&◌, List, [], ◌∷◌, ℕ, ◌+◌, ◌*◌, ◌<◌, ◌≤◌, eqb, ltb, length, get_or}
+use Rattle.std.specs.List.{list_any}
 use Rattle.lists.specs.Lists.{Below}
 use Rattle.hierarchy.specs.Hierarchy.{Edge, edges_of}
 use Rattle.hierarchy.specs.declared.Ends.{Ends}
@@ -31,3 +32,13 @@ pub record Grown (es before after : List ℕ) : Type 0 where
   pub bits : Below 2 after
   pub more : (x : ℕ) → On before x → On after x
   pub within : (s : List ℕ) → Stable (length before) es s → ((x : ℕ) → On before x → On s x) → (x : ℕ) → On after x → On s x
+
+-- the edges of a list, two ends each
+unfoldable pub pairs : List ℕ → List (List ℕ)
+pairs [] = []
+pairs (parent ∷ []) = []
+pairs (parent ∷ child ∷ es) = (parent ∷ child ∷ []) ∷ pairs es
+
+-- the test holds at some pair
+abbrev pub some_pair : (ℕ → ℕ → Bool) → List (List ℕ) → Bool
+some_pair p = list_any (λ pair. p (get_or pair 0 0) (get_or pair 1 0))

@@ -8,6 +8,7 @@ use mathlib.Core.Option.{Option}
 use Prim.Native.Nat.{ℕ, ◌*◌, ◌≤◌, ◌<◌}
 use native.Mathlib.Omega.{arith}
 use lib.Dec.{eqb, ltb}
+use Rattle.std.specs.Prelude.{cond, Result as Outcome, Ok, Err}
 use lib.ListN.{length, get_or, take, drop, replicate, length-take, length-replicate, drop_of_length-le, take-append-drop}
 use lib.Seq.{take-length, take-take, take-append_seam, length-take-le}
 use borrow.Author.Tests.{eqb-true, ltb-true, ltb-false, lt-ltb, le-ltb}
@@ -20,24 +21,23 @@ use Rattle.interval_laws.proofs.Laws.{taken}
 use Rattle.locks.specs.declared.Mode.{Mode}
 use Rattle.locks.specs.Lent.{Hierarchy, lent, tables_short, lock_for}
 use Rattle.desk.specs.declared.Desk.{Desk}
+use Rattle.refusals.specs.declared.Refusal.{Refusal}
+use Rattle.refusals.specs.Refusals.{meaning}
 use Rattle.desk.specs.declared.EnterAnswer.{EnterAnswer}
 use Rattle.desk.specs.declared.EnterAnswer.TheVariants.{Granted, Waits, Refused as EnterRefused}
-use Rattle.desk.specs.declared.PutAnswer.{PutAnswer}
-use Rattle.desk.specs.declared.PutAnswer.TheVariants.{Stored, Refused as PutRefused}
-use Rattle.desk.specs.declared.AddAnswer.{AddAnswer}
-use Rattle.desk.specs.declared.AddAnswer.TheVariants.{Added, Refused as AddRefused}
-use Rattle.desk.specs.declared.LeaveAnswer.{LeaveAnswer}
-use Rattle.desk.specs.declared.LeaveAnswer.TheVariants.{Left, Refused as LeaveRefused}
+use Rattle.desk.specs.declared.GetAnswer.{GetAnswer}
+use Rattle.desk.specs.declared.GetAnswer.TheVariants.{Value, Waiting, Refused as GetRefused}
 use Rattle.desk.specs.Desks.{fresh_desk}
 use Rattle.desk.specs.Steps.{Admission, granted, waits, PutResult, values_short, search_after}
 use Rattle.desk.specs.Steps.{enter_unless, enter_step, get_unless, get_step, put_unless, put_step, sum64, add_step, leave_unless, leave_step}
-use Rattle.desk.specs.Answers.{enter_meaning, get_meaning, put_meaning, add_meaning, leave_meaning, get_case}
+use Rattle.desk.specs.Answers.{enter_meaning, get_meaning, get_case}
 use Rattle.runs.specs.Run.{Lending, whole, part, lend, restored, Call, enter, get, put, add, leave, Step, lent_to, Event, entered, got, stored, added, left, State, start}
 use Rattle.runs.specs.Run.{Moved, after_enter, after_get, after_put, after_add, listed, after_leave, move_call, move, also_ran, run}
 use Rattle.runs.proofs.Lends.{restored_lend, put_length, add_length}
 use Rattle.history.specs.Serial.{Built, Serial, SerialSteps}
 use Rattle.history.specs.Results.{LentOf, left_in, Result, enter as entering, get as getting, put as putting, add as adding, leave as leaving, Made, Meets}
 use Rattle.history.specs.Results.{desk_from, values_from, told_by, AllMeet, told_by_all, last_desk, last_values, lending, call_for, step_for, steps_for}
+use Rattle.history.proofs.Numbers.{refusal_of, Numbered, enter_numbered, get_numbered, put_numbered, add_numbered, leave_numbered}
 use Rattle.history.proofs.Nested.{built_nested}
 use Rattle.history.proofs.Serializable.{serializable}
 
@@ -287,68 +287,55 @@ results_demand_3 H b made met = results_serial H b (replicate H.n 0) (length-rep
 enter_answer : Answer Admission → EnterAnswer
 enter_answer (done (granted cover)) = Granted cover
 enter_answer (done waits) = Waits
-enter_answer (refused k) = EnterRefused k
+enter_answer (refused k) = EnterRefused (refusal_of k)
 
-enter_means : (a : Answer Admission) → enter_meaning (enter_answer a) ≡ a
+enter_means : (a : Answer Admission) → Numbered a → enter_meaning (enter_answer a) ≡ a
 unfolding enter_answer
-enter_means (done (granted cover)) = refl
-enter_means (done waits) = refl
-enter_means (refused k) = refl
+enter_means (done (granted cover)) e = refl
+enter_means (done waits) e = refl
+enter_means (refused k) e = ap refused e
 
-get_means : (a : Answer ℕ) → get_meaning (get_case a) ≡ a
-get_means (done value) = refl
-get_means (refused k) = bool (eqb k 14) (λ e. rw (e, eqb-true k 14 e) refl) (λ e. rw e refl)
+get_answer : Answer ℕ → GetAnswer
+get_answer (done value) = Value value
+get_answer (refused k) = cond (eqb k 14) Waiting (GetRefused (refusal_of k))
 
-put_answer : Answer (Unit {0}) → PutAnswer
-put_answer (done _) = Stored
-put_answer (refused k) = PutRefused k
+get_means : (a : Answer ℕ) → Numbered a → (get_meaning (get_answer a) ≡ a) × (get_case (get_answer a) ≡ true)
+unfolding get_answer
+get_means (done value) e = (refl, refl)
+get_means (refused k) e = bool (eqb k 14) (λ f. rw (f, eqb-true k 14 f) (refl, refl)) (λ f. rw (f, e, f) (refl, refl))
 
-put_means : (a : Answer (Unit {0})) → put_meaning (put_answer a) ≡ a
-unfolding put_answer
-put_means (done _) = refl
-put_means (refused k) = refl
+result_of : {A : Type 0} → Answer A → Outcome A Refusal
+result_of (done x) = Ok x
+result_of (refused k) = Err (refusal_of k)
 
-add_answer : Answer (Unit {0}) → AddAnswer
-add_answer (done _) = Added
-add_answer (refused k) = AddRefused k
-
-add_means : (a : Answer (Unit {0})) → add_meaning (add_answer a) ≡ a
-unfolding add_answer
-add_means (done _) = refl
-add_means (refused k) = refl
-
-leave_answer : Answer ℕ → LeaveAnswer
-leave_answer (done k) = Left k
-leave_answer (refused k) = LeaveRefused k
-
-leave_means : (a : Answer ℕ) → leave_meaning (leave_answer a) ≡ a
-unfolding leave_answer
-leave_means (done k) = refl
-leave_means (refused k) = refl
+result_means : {A : Type 0} (a : Answer A) → Numbered a → meaning (result_of a) ≡ a
+unfolding result_of
+result_means (done x) e = refl
+result_means (refused k) e = ap refused e
 
 -- the result of a step of a run
 result_for : Hierarchy → Desk → List ℕ → Call → Result
 result_for K d values (enter party mode names name_count) =
     let s = enter_step K d party mode names name_count in entering party mode names name_count (record { desk = s.desk; answer = enter_answer s.answer })
 result_for K d values (get party node l c) =
-    let s = get_step K d party node (lend values l) c in getting party node (lend values l) c (record { desk = s.desk; answer = get_case s.answer }) s.scratch
+    let s = get_step K d party node (lend values l) c in getting party node (lend values l) c (record { desk = s.desk; answer = get_answer s.answer }) s.scratch
 result_for K d values (put party node value l c) =
     let s = put_step K d party node value (lend values l) c in
-    putting party node value (lend values l) c (record { desk = s.desk; answer = put_answer s.answer }) s.values s.scratch
+    putting party node value (lend values l) c (record { desk = s.desk; answer = result_of s.answer }) s.values s.scratch
 result_for K d values (add party node number l c) =
     let s = add_step K d party node number (lend values l) c in
-    adding party node number (lend values l) c (record { desk = s.desk; answer = add_answer s.answer }) s.values s.scratch
+    adding party node number (lend values l) c (record { desk = s.desk; answer = result_of s.answer }) s.values s.scratch
 result_for K d values (leave party list) =
-    let s = leave_step K d party list in leaving party list (record { desk = s.desk; answer = leave_answer s.answer }) s.list
+    let s = leave_step K d party list in leaving party list (record { desk = s.desk; answer = result_of s.answer }) s.list
 
 -- it meets the contract,
 result_meets : (K : Hierarchy) (d : Desk) (values : List ℕ) (c : Call) → Meets K d values (result_for K d values c)
 unfolding result_for
-result_meets K d values (enter party mode names name_count) = (refl, enter_means _)
-result_meets K d values (get party node l c) = (lend_lent values l, (refl, get_means _, refl, refl))
-result_meets K d values (put party node value l c) = (lend_lent values l, (refl, put_means _, refl, refl))
-result_meets K d values (add party node number l c) = (lend_lent values l, (refl, add_means _, refl, refl))
-result_meets K d values (leave party list) = (refl, leave_means _, refl)
+result_meets K d values (enter party mode names name_count) = (refl, enter_means _ (enter_numbered K d party mode names name_count))
+result_meets K d values (get party node l c) = (lend_lent values l, let m = get_means _ (get_numbered K d party node (lend values l) c) in (refl, m.0, m.1, refl))
+result_meets K d values (put party node value l c) = (lend_lent values l, (refl, result_means _ (put_numbered K d party node value (lend values l) c), refl, refl))
+result_meets K d values (add party node number l c) = (lend_lent values l, (refl, result_means _ (add_numbered K d party node number (lend values l) c), refl, refl))
+result_meets K d values (leave party list) = (refl, result_means _ (leave_numbered K d party list), refl)
 
 -- what is left in a buffer that was lent of the values, by a step that leaves all where the buffer is too short, and as many values as it was lent
 left_lent : (K : Hierarchy) (d : Desk) (values scratch : List ℕ) → length values ≡ K.n → (l : Lending) (r : PutResult)
@@ -368,17 +355,17 @@ left_lent K d values scratch sized l r short long =
 result_moves : (H K : Hierarchy) (d : Desk) (values : List ℕ) → length values ≡ K.n → (c : Call) → let r = result_for K d values c in
     move_call K c (between H d values) ≡ record { state = between H (desk_from r) (values_from values r); event = told_by r }
 unfolding result_for move_call after_enter after_get after_put after_add after_leave
-result_moves H K d values sized (enter party mode names name_count) = moved_alike H refl refl (ap (entered party) (sym (enter_means _)))
-result_moves H K d values sized (get party node l c) = moved_alike H refl refl (ap (got party node) (sym (get_means _)))
+result_moves H K d values sized (enter party mode names name_count) = moved_alike H refl refl (ap (entered party) (sym (enter_means _ (enter_numbered K d party mode names name_count))))
+result_moves H K d values sized (get party node l c) = moved_alike H refl refl (ap (got party node) (sym ((get_means _ (get_numbered K d party node (lend values l) c)).0)))
 result_moves H K d values sized (put party node value l c) =
     moved_alike H refl
     (left_lent K d values c sized l (put_step K d party node value (lend values l) c) (short_put K d party node value (lend values l) c) (put_length K d party node value (lend values l) c))
-    (ap (stored party node value) (sym (put_means _)))
+    (ap (stored party node value) (sym (result_means _ (put_numbered K d party node value (lend values l) c))))
 result_moves H K d values sized (add party node number l c) =
     moved_alike H refl
     (left_lent K d values c sized l (add_step K d party node number (lend values l) c) (short_add K d party node number (lend values l) c) (add_length K d party node number (lend values l) c))
-    (ap (added party node number) (sym (add_means _)))
-result_moves H K d values sized (leave party list) = moved_alike H refl refl (left_alike party refl (sym (leave_means _)))
+    (ap (added party node number) (sym (result_means _ (add_numbered K d party node number (lend values l) c))))
+result_moves H K d values sized (leave party list) = moved_alike H refl refl (left_alike party refl (sym (result_means _ (leave_numbered K d party list))))
 
 made_for : Hierarchy → Desk → List ℕ → Step → Made
 made_for H d values x =

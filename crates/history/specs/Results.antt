@@ -1,14 +1,13 @@
 -- A host's own list of calls, each with its result: the struct that the method handed back, and the buffer after. Assumes nothing.
-use Rattle.std.specs.Prelude.{◌≡◌, ◌⊎◌, List, [], ◌∷◌, map, cond, ℕ, ◌<◌, ltb, length, take, drop}
+use Rattle.std.specs.Prelude.{◌≡◌, ◌⊎◌, List, [], ◌∷◌, map, cond, ℕ, ◌<◌, ltb, length, take, drop, Result as Outcome}
 use Rattle.hierarchy.specs.Hierarchy.{edges_of}
 use Rattle.locks.specs.declared.Mode.{Mode}
 use Rattle.locks.specs.Lent.{Hierarchy, lent}
 use Rattle.desk.specs.declared.Desk.{Desk}
-use Rattle.desk.specs.declared.EnterStep.{EnterStep}
-use Rattle.desk.specs.declared.GetStep.{GetStep}
-use Rattle.desk.specs.declared.PutStep.{PutStep}
-use Rattle.desk.specs.declared.AddStep.{AddStep}
-use Rattle.desk.specs.declared.LeaveStep.{LeaveStep}
+use Rattle.refusals.specs.declared.Refusal.{Refusal}
+use Rattle.desk.specs.declared.EnterAnswer.{EnterAnswer}
+use Rattle.desk.specs.declared.GetAnswer.{GetAnswer}
+use Rattle.desk.specs.declared.Step.{Step as DeskStep}
 use Rattle.desk.specs.Steps.{enter_step, get_step, put_step, add_step, leave_step}
 use Rattle.desk.specs.Answers.{enter_meaning, get_meaning, put_meaning, add_meaning, leave_meaning, Enters, Gets, Puts, Adds, Leaves}
 use Rattle.runs.specs.Run.{Lending, part, Call, enter as enter_call, get as get_call, put as put_call, add as add_call, leave as leave_call, Step, Event, entered, got, stored, added, left, listed}
@@ -23,11 +22,11 @@ left_in table buffer = cond (ltb (length buffer) (length table)) table (take (le
 
 -- which step it was, what it was given besides the hierarchy and the desk, and its result: `after` is what it left in the values or the list, `used` in the scratch
 pub data Result : Type 0 where
-  enter : (party : ℕ) (mode : Mode) (names : List ℕ) (name_count : ℕ) (r : EnterStep) → Result
-  get : (party node : ℕ) (values scratch : List ℕ) (r : GetStep) (used : List ℕ) → Result
-  put : (party node value : ℕ) (values scratch : List ℕ) (r : PutStep) (after used : List ℕ) → Result
-  add : (party node number : ℕ) (values scratch : List ℕ) (r : AddStep) (after used : List ℕ) → Result
-  leave : (party : ℕ) (list : List ℕ) (r : LeaveStep) (after : List ℕ) → Result
+  enter : (party : ℕ) (mode : Mode) (names : List ℕ) (name_count : ℕ) (r : DeskStep EnterAnswer) → Result
+  get : (party node : ℕ) (values scratch : List ℕ) (r : DeskStep GetAnswer) (used : List ℕ) → Result
+  put : (party node value : ℕ) (values scratch : List ℕ) (r : DeskStep (Outcome (Unit {0}) Refusal)) (after used : List ℕ) → Result
+  add : (party node number : ℕ) (values scratch : List ℕ) (r : DeskStep (Outcome (Unit {0}) Refusal)) (after used : List ℕ) → Result
+  leave : (party : ℕ) (list : List ℕ) (r : DeskStep (Outcome ℕ Refusal)) (after : List ℕ) → Result
 
 -- a call that was made: the two tables as it was lent them, and the rest
 pub record Made : Type 0 where

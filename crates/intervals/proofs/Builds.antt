@@ -1,6 +1,6 @@
 -- Building: what it leaves after each of its ends. Assumes nothing.
-use mathlib.Core.Path.{◌≡◌, refl, sym, ap, ◌∙◌}
-use mathlib.Core.List.{List, [], ◌∷◌, append-nil}
+use mathlib.Core.Path.{◌≡◌, refl, ◌∙◌}
+use mathlib.Core.List.{List, ◌∷◌, append-nil}
 use mathlib.Core.Bool.{Bool, true, false}
 use mathlib.Core.Option.{Option, none, some}
 use Prim.Native.Nat.{ℕ, ◌*◌, ◌/◌, ◌≤◌, ◌<◌}
@@ -8,46 +8,32 @@ use native.Mathlib.Omega.{arith}
 use lib.ListN.{length, replicate, drop_of_length-le}
 use borrow.Author.Tests.{lt-ltb, le-ltb}
 use Rattle.lists.specs.Lists.{over}
-use Rattle.lists.specs.Answer.{Answer, done, refused, Check, ◌when◌, refusal, number_of, answer_of, room_after}
+use Rattle.lists.specs.Answer.{Answer, done, refused, ◌when◌, refusal, answer_of, room_after}
 use Rattle.hierarchy.specs.Hierarchy.{edges_of, hierarchy_checks, Legal}
 use Rattle.intervals.specs.Numbering.{numbering}
 use Rattle.intervals.specs.Intervals.{interval_table}
 use Rattle.intervals.specs.Build.{build_short, build_step, numbers_short, numbers_step}
-use Rattle.lists.proofs.Bools.{bool}
+use Rattle.lists.proofs.Bools.{not_both}
 use Rattle.lists.proofs.Refusals.{refused_here, refused_later}
 
 -- ---- the refusals
 
--- the numbers of a list of checks are from 1 on
-abbrev FromOne : List Check → Type 0
-FromOne [] = Unit {0}
-FromOne (c ∷ cs) = (1 ≤ c.number) × FromOne cs
+-- a refusal is the one that the checks give
+refused_by : (o : Option ℕ) (k : ℕ) → ◌≡◌ {A = Answer (Unit {0})} (refused k) (answer_of o tt) → o ≡ some k
+refused_by none k e = not_both true refl cc
+refused_by (some j) k e = cc
 
--- so that 0 says that none holds
-none_of : (cs : List Check) → FromOne cs → 0 ≡ number_of (refusal cs) → refusal cs ≡ none
-unfolding refusal
-none_of [] f e = refl
-none_of (c ∷ cs) f e =
-    bool c.holds
-    (λ h. absurd (let s = ap number_of (refused_here c cs h) in omega (arith, f.0)))
-    (λ h. let s = refused_later c cs h in s ∙ none_of cs f.1 (e ∙ ap number_of s))
-
-some_of : (o : Option ℕ) (k : ℕ) → k ≡ number_of o → (k ≡ 0 → ⊥) → o ≡ some k
-some_of none k e d = absurd (d e)
-some_of (some j) k e d = ap some (sym e)
+-- and where there is none, none of them holds
+done_by : (o : Option ℕ) → ◌≡◌ {A = Answer (Unit {0})} (done tt) (answer_of o tt) → o ≡ none
+done_by none e = refl
+done_by (some j) e = not_both true refl cc
 
 module _ (n : ℕ) (edges : List ℕ) (count : ℕ) where
-  pub legal_of : 0 ≡ number_of (refusal (hierarchy_checks n edges count)) → Legal n edges count
-  legal_of e = none_of (hierarchy_checks n edges count) (omega arith, (omega arith, (omega arith, (omega arith, (omega arith, tt))))) e
+  pub legal_of : ◌≡◌ {A = Answer (Unit {0})} (done tt) (answer_of (refusal (hierarchy_checks n edges count)) tt) → Legal n edges count
+  legal_of = done_by (refusal (hierarchy_checks n edges count))
 
   module _ (places scratch : List ℕ) where
     -- 1, by division
-    pub short_places : length places / 2 < n → build_short n edges count places scratch ≡ true
-    short_places h = rw (lt-ltb (length places) (2 * n) (omega arith)) refl
-
-    pub short_edges : n ≤ length places / 2 → length edges / 2 < count → build_short n edges count places scratch ≡ true
-    short_edges g h = rw (le-ltb (length places) (2 * n) (omega arith), lt-ltb (length edges) (2 * count) (omega arith)) refl
-
     pub short_scratch : n ≤ length places / 2 → count ≤ length edges / 2 → length scratch < 512 → build_short n edges count places scratch ≡ true
     short_scratch g f h = rw (le-ltb (length places) (2 * n) (omega arith), le-ltb (length edges) (2 * count) (omega arith), lt-ltb (length scratch) 512 h) refl
 
@@ -74,15 +60,6 @@ module _ (n : ℕ) (edges : List ℕ) (count : ℕ) where
     scratch_short_scratch g f h = (left_short (short_scratch g f h)).1.1
 
     module _ (h : build_short n edges count places scratch ≡ false) (scratch' : List ℕ) (wiped : scratch' ≡ over (replicate 512 0) scratch) where
-      -- after another refusal
-      pub left_refused : (k : ℕ) → k ≡ number_of (refusal (hierarchy_checks n edges count)) → (k ≡ 0 → ⊥)
-          → (refused k ≡ (build_step n edges count places scratch).answer)
-          × ((places ≡ (build_step n edges count places scratch).places) × (scratch' ≡ (build_step n edges count places scratch).scratch))
-      unfolding build_step
-      left_refused k e d =
-          let r = refused_later (1 when build_short n edges count places scratch) (hierarchy_checks n edges count) h ∙ some_of (refusal (hierarchy_checks n edges count)) k e d in
-          rw (r, h) (refl, (refl, wiped))
-
       -- after building
       pub left_built : Legal n edges count → (places' : List ℕ) → places' ≡ over (interval_table n (edges_of edges count)) places
           → (done tt ≡ (build_step n edges count places scratch).answer)
@@ -107,9 +84,9 @@ module _ (n : ℕ) (edges : List ℕ) (count : ℕ) (short : Bool) (xs room : Li
 
   module _ (h : short ≡ false) where
     -- after another refusal
-    pub room_refused : (k : ℕ) → k ≡ number_of (refusal (hierarchy_checks n edges count)) → (k ≡ 0 → ⊥) → Left (refused k) room
-    room_refused k e d =
-        rw (refused_later (1 when short) (hierarchy_checks n edges count) h ∙ some_of (refusal (hierarchy_checks n edges count)) k e d) (refl, refl)
+    pub room_refused : (k : ℕ) → ◌≡◌ {A = Answer (Unit {0})} (refused k) (answer_of (refusal (hierarchy_checks n edges count)) tt) → Left (refused k) room
+    room_refused k e =
+        rw (refused_later (1 when short) (hierarchy_checks n edges count) h ∙ refused_by (refusal (hierarchy_checks n edges count)) k e) (refl, refl)
 
     -- after all
     pub room_done : Legal n edges count → (room' : List ℕ) → room' ≡ over xs room → Left (done tt) room'
@@ -124,12 +101,6 @@ module _ (n : ℕ) (edges : List ℕ) (count : ℕ) (short : Bool) (xs room : Li
 -- ---- the numbers alone
 
 module _ (n : ℕ) (edges : List ℕ) (count : ℕ) (places : List ℕ) where
-  pub few_places : length places < n → numbers_short n edges count places ≡ true
-  few_places h = rw (lt-ltb (length places) n h) refl
-
-  pub few_edges : n ≤ length places → length edges / 2 < count → numbers_short n edges count places ≡ true
-  few_edges g h = rw (le-ltb (length places) n g, lt-ltb (length edges) (2 * count) (omega arith)) refl
-
   pub many_enough : n ≤ length places → count ≤ length edges / 2 → numbers_short n edges count places ≡ false
   many_enough g h = rw (le-ltb (length places) n g, le-ltb (length edges) (2 * count) (omega arith)) refl
 
@@ -142,10 +113,6 @@ module _ (n : ℕ) (edges : List ℕ) (count : ℕ) (places : List ℕ) where
   numbers_short_law = room_short n edges count (numbers_short n edges count places) (numbering n (edges_of edges count)) places
 
   module _ (h : numbers_short n edges count places ≡ false) where
-    pub numbers_refused : (k : ℕ) → k ≡ number_of (refusal (hierarchy_checks n edges count)) → (k ≡ 0 → ⊥) → NumbersLeft (refused k) places
-    unfolding numbers_step
-    numbers_refused = room_refused n edges count (numbers_short n edges count places) (numbering n (edges_of edges count)) places h
-
     pub numbers_done : Legal n edges count → (places' : List ℕ) → places' ≡ over (numbering n (edges_of edges count)) places → NumbersLeft (done tt) places'
     unfolding numbers_step
     numbers_done = room_done n edges count (numbers_short n edges count places) (numbering n (edges_of edges count)) places h

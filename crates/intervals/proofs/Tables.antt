@@ -120,14 +120,14 @@ module _ (t : List ℕ) (p c : ℕ) (hp : p < length (lows t)) (hc : c < length 
 -- ---- a pass
 
 -- a pass takes edges of the table
-pub turn_below : (back : Bool) (count left : ℕ) → 0 < left → left ≤ count → turn_at back count left < count
-turn_below true count left h k = omega arith
-turn_below false count left h k = omega arith
+pub turn_below : (back : Bool) (count turn : ℕ) → turn < count → turn_at back count turn < count
+turn_below true count turn h = omega arith
+turn_below false count turn h = h
 
 -- and takes each
-turn_all : (P : ℕ → Type 0) (back : Bool) (count : ℕ) → ((k : ℕ) → 0 < k → k ≤ count → P (turn_at back count k)) → (e : ℕ) → e < count → P e
-turn_all P true count f e h = let q : suc e - 1 ≡ e = omega arith in rw q at (f (suc e) (omega arith) (omega arith))
-turn_all P false count f e h = let q : count - (count - e) ≡ e = omega arith in rw q at (f (count - e) (omega arith) (omega arith))
+turn_all : (P : ℕ → Type 0) (back : Bool) (count : ℕ) → ((k : ℕ) → k < count → P (turn_at back count k)) → (e : ℕ) → e < count → P e
+turn_all P true count f e h = let q : count - 1 - (count - 1 - e) ≡ e = omega arith in rw q at (f (count - 1 - e) (omega arith))
+turn_all P false count f e h = f e h
 
 -- an edge has nothing to do
 abbrev Even : List ℕ → Ends → Type 0
@@ -135,36 +135,34 @@ Even table ends =
     Ok false (get_or table (2 * ends.parent) 0) (get_or table (2 * ends.child) 0)
     × Ok true (get_or table (2 * ends.parent + 1) 0) (get_or table (2 * ends.child + 1) 0)
 
-pub record Relaxing (back : Bool) (edges : List ℕ) (count : ℕ) (table₀ : List ℕ) (left : ℕ) (changed : Bool) (table : List ℕ) : Type 0 where
-  pub so_far : left ≤ count
+pub record Relaxing (back : Bool) (edges : List ℕ) (count : ℕ) (table₀ : List ℕ) (turn : ℕ) (changed : Bool) (table : List ℕ) : Type 0 where
   pub long : length table ≡ length table₀
   pub small : Below 65536 table
   pub lower : Kept false (edges_of edges count) (lows table₀) (lows table)
   pub higher : Kept true (edges_of edges count) (highs table₀) (highs table)
   pub went : Went table_weight changed table₀ table
-  pub even : changed ≡ false → (k : ℕ) → left < k → k ≤ count → Even table (ends_at edges (turn_at back count k))
+  pub even : changed ≡ false → (k : ℕ) → k < turn → Even table (ends_at edges (turn_at back count k))
 
-pub relaxing_start : (back : Bool) (edges : List ℕ) (count : ℕ) (table : List ℕ) → Below 65536 table → Relaxing back edges count table count false table
+pub relaxing_start : (back : Bool) (edges : List ℕ) (count : ℕ) (table : List ℕ) → Below 65536 table → Relaxing back edges count table 0 false table
 relaxing_start back edges count table b =
     record {
-      so_far = omega arith;
       long = refl;
       small = b;
       lower = kept_start false (edges_of edges count) (lows table);
       higher = kept_start true (edges_of edges count) (highs table);
       went = refl;
-      even = λ f k h j. absurd (omega arith);
+      even = λ f k h. absurd (omega arith);
     }
 
-module _ (back : Bool) (edges : List ℕ) (count : ℕ) (table₀ : List ℕ) (fits : Edges (length (lows table₀)) count edges) (left : ℕ) (changed : Bool) (table : List ℕ)
-    (k : Relaxing back edges count table₀ left changed table) where
+module _ (back : Bool) (edges : List ℕ) (count : ℕ) (table₀ : List ℕ) (fits : Edges (length (lows table₀)) count edges) (at : ℕ) (changed : Bool) (table : List ℕ)
+    (k : Relaxing back edges count table₀ at changed table) where
   fits_now : Edges (length (lows table)) count edges
   fits_now = rw k.lower.long fits
 
-  module _ (h : 0 < left) (e : ℕ) (at : e ≡ turn_at back count left) (ends : Ends) (is : ends ≡ ends_at edges e) where
+  module _ (h : at < count) (e : ℕ) (it : e ≡ turn_at back count at) (ends : Ends) (is : ends ≡ ends_at edges e) where
     -- the edge that the turn reads
     here : Edge (edges_of edges count) ends.parent ends.child
-    here = rw is (edge_here edges count e (turn (length (lows table)) count edges fits_now e (rw at (turn_below back count left h k.so_far))))
+    here = rw is (edge_here edges count e (turn (length (lows table)) count edges fits_now e (rw it (turn_below back count at h))))
 
     here_parent : ends.parent < length (lows table)
     here_parent = (fits_now.below _ _ here).0
@@ -180,16 +178,16 @@ module _ (back : Bool) (edges : List ℕ) (count : ℕ) (table₀ : List ℕ) (f
         → low ≡ is_better false (get_or table (2 * ends.child) 0) (get_or table (2 * ends.parent) 0)
         → high ≡ is_better true (get_or table' (2 * ends.child + 1) 0) (get_or table' (2 * ends.parent + 1) 0)
         → Went table_weight low table table' → Went table_weight high table' table''
-        → ((changed || low) || high) ≡ false → (j : ℕ) → left - 1 < j → j ≤ count → Even table'' (ends_at edges (turn_at back count j))
-    even_more table' table'' low high la ha w x f j a b =
-        let f' = or_left (changed || low) high f in
-        let l = or_right changed low f' in
-        let g = or_right (changed || low) high f in
+        → (changed || (low || high)) ≡ false → (j : ℕ) → j < at + 1 → Even table'' (ends_at edges (turn_at back count j))
+    even_more table' table'' low high la ha w x f j a =
+        let f' = or_right changed (low || high) f in
+        let l = or_left low high f' in
+        let g = or_right low high f' in
         let s : table'' ≡ table' = rw g at x in
         let s' : table' ≡ table = rw l at w in
-        bool (eqb j left)
-        (λ t. subst (Even table'') (is ∙ ap (ends_at edges) (at ∙ ap (turn_at back count) (sym (eqb-true j left t)))) (rw s (rw s' (sym la ∙ l), sym ha ∙ g)))
-        (λ t. let d = eqb-false j left t in rw (s ∙ s') (k.even (or_left changed low f') j (omega (arith, d)) b))
+        bool (eqb j at)
+        (λ t. subst (Even table'') (is ∙ ap (ends_at edges) (it ∙ ap (turn_at back count) (sym (eqb-true j at t)))) (rw s (rw s' (sym la ∙ l), sym ha ∙ g)))
+        (λ t. let d = eqb-false j at t in rw (s ∙ s') (k.even (or_left changed (low || high) f) j (omega (arith, d))))
 
     pub relaxing_more : (table' table'' : List ℕ) (low high : Bool)
         → low ≡ is_better false (get_or table (2 * ends.child) 0) (get_or table (2 * ends.parent) 0)
@@ -197,7 +195,7 @@ module _ (back : Bool) (edges : List ℕ) (count : ℕ) (table₀ : List ℕ) (f
         → high ≡ is_better true (get_or table' (2 * ends.child + 1) 0) (get_or table' (2 * ends.parent + 1) 0)
         → table'' ≡ improved true (2 * ends.parent + 1) (2 * ends.child + 1) table'
         → Below 65536 table' → Below 65536 table'' → length table' ≡ length table → length table'' ≡ length table'
-        → Relaxing back edges count table₀ (left - 1) ((changed || low) || high) table''
+        → Relaxing back edges count table₀ (at + 1) (changed || (low || high)) table''
     relaxing_more table' table'' low high la lt ha ht small' small'' long' long'' =
         let hp : ends.parent < length (lows table') = omega (arith, here_parent, lows_long table, lows_long table', long') in
         let hc : ends.child < length (lows table') = omega (arith, here_child, lows_long table, lows_long table', long') in
@@ -208,7 +206,6 @@ module _ (back : Bool) (edges : List ℕ) (count : ℕ) (table₀ : List ℕ) (f
         let x : Went table_weight high table' table'' =
         rw (ht, ← ha) (high_went table' ends.parent ends.child hp hc high (get_or table' (2 * ends.child + 1) 0) (sym ha) (small' (2 * ends.child + 1))) in
         record {
-          so_far = omega (arith, k.so_far);
           long = long'' ∙ long' ∙ k.long;
           small = small'';
           lower =
@@ -217,14 +214,14 @@ module _ (back : Bool) (edges : List ℕ) (count : ℕ) (table₀ : List ℕ) (f
           higher =
               rw (ap highs ht ∙ b.1 ∙ ap (improved true ends.parent ends.child) (ap highs lt ∙ a.1))
               (kept_one true (edges_of edges count) (highs table₀) (highs table) ends.parent ends.child here k.higher);
-          went = went_both table_weight (changed || low) high table₀ table' table'' (went_both table_weight changed low table₀ table table' k.went w) x;
+          went = went_both table_weight changed (low || high) table₀ table table'' k.went (went_both table_weight low high table table' table'' w x);
           even = even_more table' table'' low high la ha w x;
         }
 
-  pub relaxing_end : left ≤ 0 → changed ≡ false → Settled false (edges_of edges count) (lows table) × Settled true (edges_of edges count) (highs table)
+  pub relaxing_end : count ≤ at → changed ≡ false → Settled false (edges_of edges count) (lows table) × Settled true (edges_of edges count) (highs table)
   relaxing_end h f =
       let all : (p c : ℕ) → Edge (edges_of edges count) p c → Even table (record { parent = p; child = c }) =
-      λ p c. edges_all (Even table) edges count (turn_all (λ e. Even table (ends_at edges e)) back count (λ j a b. k.even f j (omega arith) b)) in (
+      λ p c. edges_all (Even table) edges count (turn_all (λ e. Even table (ends_at edges e)) back count (λ j a. k.even f j (omega arith))) in (
         λ p c d. let b = fits_now.below p c d in rw (lows_at table p b.0, lows_at table c b.1) (all p c d).0,
         λ p c d. let b = fits_now.below p c d in rw (highs_at table p b.0, highs_at table c b.1) (all p c d).1,
       )

@@ -2,7 +2,7 @@
 use mathlib.Core.Path.{◌≡◌, refl, sym, ap, ◌∙◌}
 use mathlib.Core.List.{List, [], ◌∷◌}
 use mathlib.Core.Bool.{Bool, true, false}
-use Prim.Native.Nat.{ℕ, zero, suc, ◌+◌, ◌*◌, ◌-◌, ◌≤◌, ◌<◌}
+use Prim.Native.Nat.{ℕ, zero, suc, ◌+◌, ◌*◌, ◌≤◌, ◌<◌}
 use native.Mathlib.Omega.{arith}
 use lib.Dec.{eqb}
 use lib.ListN.{length, get_or, set, replicate, length-set, length-replicate}
@@ -130,76 +130,63 @@ module _ (into : ℕ → Walk → Walk) (c : ℕ) (s : Walk) (h : c < length s.m
         rw
         (ne_eqb (get_or s.marks c 2) 0 (λ e. omega (arith, mark)), eq-eqb (get_or s.marks c 2) 1 (mark ∙ m), ne_eqb (get_or s.numbers c 1) 0 (λ e. n (sym number ∙ e)))
 
--- the loop of a walk of a node, opened at s₀, with some edges left: what is left to do from s gives what was to be done from s₀
-pub record Left (edges : List ℕ) (count node : ℕ) (s₀ : Walk) (left : ℕ) (leaf : Bool) (s : Walk) : Type 0 where
-  pub so_far : left ≤ count
+-- the loop of a walk of a node, opened at s₀, at edge e: what is left to do from s gives what was to be done from s₀
+pub record Left (edges : List ℕ) (count node : ℕ) (s₀ : Walk) (e : ℕ) (leaf : Bool) (s : Walk) : Type 0 where
   pub after : After s₀ s
   pub same :
       (k : ℕ) → zeros s₀.marks ≤ k
-      → finish (walk k (edges_of edges count)) node (children (rest edges count (count - left)) node) leaf s ≡ inside (walk k (edges_of edges count)) node (children (edges_of edges count) node) s₀
+      → finish (walk k (edges_of edges count)) node (children (rest edges count e) node) leaf s ≡ inside (walk k (edges_of edges count)) node (children (edges_of edges count) node) s₀
 
 module _ (n count : ℕ) (edges : List ℕ) (fits : Edges n count edges) (node : ℕ) (s₀ : Walk) where
-  pub left_start : Left edges count node s₀ count true s₀
+  pub left_start : Left edges count node s₀ 0 true s₀
   left_start =
-      let z : count - count ≡ 0 = omega arith in
       record {
-        so_far = omega arith;
         after = after_refl s₀;
-        same = λ k h. rw z (finish_inside (walk k (edges_of edges count)) node (children (edges_of edges count) node) s₀);
+        same = λ k h. finish_inside (walk k (edges_of edges count)) node (children (edges_of edges count) node) s₀;
       }
 
-  module _ (left : ℕ) (leaf : Bool) (s : Walk) (l : Left edges count node s₀ left leaf s) where
-    module _ (lt : 0 < left) (ends : Ends) (is : ends ≡ ends_at edges (count - left)) where
-      here : count - left < count
-      here = omega (arith, l.so_far)
-
-      next : (count - left) + 1 ≡ count - (left - 1)
-      next = omega (arith, l.so_far)
-
-      is_parent : ends.parent ≡ get_or edges (2 * (count - left)) 0
+  module _ (e : ℕ) (leaf : Bool) (s : Walk) (l : Left edges count node s₀ e leaf s) where
+    module _ (here : e < count) (ends : Ends) (is : ends ≡ ends_at edges e) where
+      is_parent : ends.parent ≡ get_or edges (2 * e) 0
       is_parent = ap (λ (x : Ends). x.parent) is
 
-      is_child : ends.child ≡ get_or edges (2 * (count - left) + 1) 0
+      is_child : ends.child ≡ get_or edges (2 * e + 1) 0
       is_child = ap (λ (x : Ends). x.child) is
 
       pub left_within : ends.child < n
-      left_within = omega (arith, is_child, child_below n count edges fits (count - left) here)
+      left_within = omega (arith, is_child, child_below n count edges fits e here)
 
-      pub left_other : (ends.parent ≡ node → ⊥) → Left edges count node s₀ (left - 1) leaf s
+      pub left_other : (ends.parent ≡ node → ⊥) → Left edges count node s₀ (e + 1) leaf s
       left_other d =
           record {
-            so_far = omega (arith, l.so_far);
             after = l.after;
             same = λ k h.
                 ap (λ (cs : List ℕ). finish (walk k (edges_of edges count)) node cs leaf s)
-                (ap (λ (e : ℕ). children (rest edges count e) node) (sym next) ∙ sym
-                (rest_other edges count (count - left) (turn n count edges fits (count - left) here) node (λ p. d (is_parent ∙ p))))
+                (sym (rest_other edges count e (turn n count edges fits e here) node (λ p. d (is_parent ∙ p))))
                 ∙ l.same k h;
           }
 
       pub left_child : ends.parent ≡ node → 1 ≤ s₀.next → (s' : Walk) → ((k : ℕ) → zeros s₀.marks ≤ k → s' ≡ meet (walk k (edges_of edges count)) ends.child s)
-          → Left edges count node s₀ (left - 1) false s'
+          → Left edges count node s₀ (e + 1) false s'
       unfolding finish
       left_child p one s' q =
           record {
-            so_far = omega (arith, l.so_far);
             after =
                 rw (q (zeros s₀.marks) (omega arith))
                 (after_trans s₀ s (meet (walk (zeros s₀.marks) (edges_of edges count)) ends.child s) l.after
                 (after_meet (walk (zeros s₀.marks) (edges_of edges count)) (after_walk (zeros s₀.marks) (edges_of edges count)) ends.child s (omega (arith, l.after.up))));
             same = λ k h.
-                ap (λ (t : Walk). finish (walk k (edges_of edges count)) node (children (rest edges count (count - (left - 1))) node) false t) (q k h)
+                ap (λ (t : Walk). finish (walk k (edges_of edges count)) node (children (rest edges count (e + 1)) node) false t) (q k h)
                 ∙ ap (λ (cs : List ℕ). finish (walk k (edges_of edges count)) node cs leaf s)
-                (ap (λ (cs : List ℕ). ends.child ∷ cs) (ap (λ (e : ℕ). children (rest edges count e) node) (sym next))
-                ∙ ap (λ (x : ℕ). x ∷ children (rest edges count (count - left + 1)) node) is_child
-                ∙ sym (rest_child edges count (count - left) (turn n count edges fits (count - left) here) node (sym is_parent ∙ p)))
+                (ap (λ (x : ℕ). x ∷ children (rest edges count (e + 1)) node) is_child
+                ∙ sym (rest_child edges count e (turn n count edges fits e here) node (sym is_parent ∙ p)))
                 ∙ l.same k h;
           }
 
-    pub left_end : left ≡ 0 → (k : ℕ) → zeros s₀.marks ≤ k → last_if leaf node s ≡ inside (walk k (edges_of edges count)) node (children (edges_of edges count) node) s₀
+    pub left_end : count ≤ e → (k : ℕ) → zeros s₀.marks ≤ k → last_if leaf node s ≡ inside (walk k (edges_of edges count)) node (children (edges_of edges count) node) s₀
     unfolding finish
     left_end z k h =
-        ap (λ (cs : List ℕ). finish (walk k (edges_of edges count)) node cs leaf s) (sym (end_children edges count (count - left) (omega arith) node))
+        ap (λ (cs : List ℕ). finish (walk k (edges_of edges count)) node cs leaf s) (sym (end_children edges count e (omega arith) node))
         ∙ l.same k h
 
 -- the walk of an unseen node, once its loop is done

@@ -2,12 +2,10 @@
 use Rattle.std.specs.Prelude.{List, ◌∷◌, Bool, true, false, ◌||◌, ℕ, ◌*◌, ltb, length, replicate}
 use Rattle.std.proofs.Math.Option.{Option}
 use Rattle.lists.specs.Lists.{over}
-use Rattle.lists.specs.Answer.{Answer, done, refused, ◌when◌, refusal, answer_of, room_after}
+use Rattle.lists.specs.Answer.{Answer, ◌when◌, refusal, answer_of, room_after}
 use Rattle.hierarchy.specs.Hierarchy.{edges_of, hierarchy_checks}
 use Rattle.intervals.specs.Numbering.{numbering}
 use Rattle.intervals.specs.Intervals.{interval_table}
-use Rattle.intervals.specs.declared.BuildAnswer.{BuildAnswer}
-use Rattle.intervals.specs.declared.BuildAnswer.TheVariants.{Built, Refused}
 
 -- what building leaves: its answer, the interval places and the scratch
 pub record BuildResult : Type 0 where
@@ -38,11 +36,6 @@ build_step n edges edge_count places scratch =
       places = room_after (build_refusal n edges edge_count places scratch) (interval_table n (edges_of edges edge_count)) places;
       scratch = scratch_after (build_short n edges edge_count places scratch) scratch;
     }
-
--- what each case of the answer is in the paper
-abbrev pub build_meaning : BuildAnswer → Answer (Unit {0})
-build_meaning Built = done tt
-build_meaning (Refused k) = refused k
 
 -- THE NUMBERS ALONE, which the plain engine takes (02, point 2): what numbering leaves, its answer and the lent places
 pub record NumbersResult : Type 0 where

@@ -30,10 +30,10 @@ is_better false x y = ltb x y
 abbrev pub improved : Bool → ℕ → ℕ → List ℕ → List ℕ
 improved up to from l = set_if (is_better up (get_or l from 0) (get_or l to 0)) l to (get_or l from 0)
 
--- the edge that a pass takes with so many left: back from the last of the table, or from its first on
+-- the edge that a pass takes at its turn: back from the last of the table, or from its first on
 abbrev pub turn_at : Bool → ℕ → ℕ → ℕ
-turn_at true edge_count left = left - 1
-turn_at false edge_count left = edge_count - left
+turn_at true edge_count turn = edge_count - 1 - turn
+turn_at false edge_count turn = turn
 
 -- x is as good as y: y is not better
 abbrev pub Ok : Bool → ℕ → ℕ → Type 0

@@ -16,7 +16,8 @@ use Rattle.octets.proofs.Writes.{over_first}
 use Rattle.locks.specs.Lent.{Hierarchy}
 use Rattle.runs.specs.Run.{Ran}
 use Rattle.replay.specs.Replay.{FileRun, start_of, file_run, perform_all, run_file}
-use Rattle.lines.specs.declared.ListingAnswer.TheVariants.{Listed, Refused as ListingRefused}
+use Rattle.std.specs.Prelude.{Ok, Err}
+use Rattle.refusals.specs.declared.Refusal.TheVariants.{Short}
 use Rattle.texts.specs.Lines.{listing}
 use Rattle.lines.specs.Listing.{values_of, listing_refusal, list_file, Lists}
 use Rattle.texts.specs.Pages.{Page, Puts}
@@ -43,7 +44,7 @@ ready_shown H rs steps values text part e l p = run_shown (perform_all (start_of
 
 -- LISTING into lent places
 module _ (file values text : List ℕ) where
-  list_refused : listing_refusal values text ≡ some 1 → Lists (ListingRefused 1) values text (list_file file values text)
+  list_refused : listing_refusal values text ≡ some 1 → Lists (Err Short) values text (list_file file values text)
   unfolding list_file
   list_refused o =
       record {
@@ -52,14 +53,14 @@ module _ (file values text : List ℕ) where
         text_after = ap (λ (x : Option ℕ). room_after x (listing (run_file file)) text) (sym o);
       }
 
-  pub list_short : ltb (length values) 256 ≡ true → Lists (ListingRefused 1) values text (list_file file values text)
+  pub list_short : ltb (length values) 256 ≡ true → Lists (Err Short) values text (list_file file values text)
   list_short e = list_refused (refused_here (1 when (ltb (length values) 256 || ltb (length text) 635680)) [] (rw e refl))
 
-  pub list_narrow : ltb (length values) 256 ≡ false → ltb (length text) 635680 ≡ true → Lists (ListingRefused 1) values text (list_file file values text)
+  pub list_narrow : ltb (length values) 256 ≡ false → ltb (length text) 635680 ≡ true → Lists (Err Short) values text (list_file file values text)
   list_narrow d e = list_refused (refused_here (1 when (ltb (length values) 256 || ltb (length text) 635680)) [] (rw (d, e) refl))
 
   pub list_done : {values' text' : List ℕ} {r : ℕ} → Below 256 file → ltb (length values) 256 ≡ false → ltb (length text) 635680 ≡ false → Listing (run_file file) values text values' text' r
-      → Lists (Listed r) values' text' (list_file file values text)
+      → Lists (Ok r) values' text' (list_file file values text)
   unfolding list_file refusal
   list_done bytes d e l =
       let o : listing_refusal values text ≡ none = refused_later (1 when (ltb (length values) 256 || ltb (length text) 635680)) [] (rw (d, e) refl) in

@@ -1,5 +1,5 @@
 -- THEOREM: the pieces of a file's listing, one behind the other, are its listing. Assumes nothing.
-use mathlib.Core.Path.{◌≡◌, refl, sym, ap, subst, ◌∙◌}
+use mathlib.Core.Path.{◌≡◌, refl, sym, ap, ap₂, subst, ◌∙◌}
 use mathlib.Core.Bool.{Bool, true}
 use mathlib.Core.List.{List, [], ◌∷◌, ◌++◌, append_assoc, append-nil}
 use Prim.Native.Nat.{ℕ, zero, suc, ◌+◌, ◌-◌, ◌*◌, ◌/◌, ◌≤◌, ◌<◌, min}
@@ -7,8 +7,9 @@ use native.Mathlib.Nat.{zero-add, add-zero, suc-add}
 use native.Mathlib.Omega.{arith}
 use lib.Dec.{leb}
 use lib.ListN.{length, take, drop, length-append, length-take, length-drop, drop_of_length-le}
-use lib.Seq.{take_at, take-take, take_all, length-take-le, drop-drop}
+use lib.Seq.{take_at, drop_at, take-take, take_all, length-take-le, drop-drop}
 use borrow.Author.Tests.{leb-true, leb-false}
+use Rattle.std.proofs.lemmas.List.{nil_from_length}
 use Rattle.lists.proofs.Loops.{keep_append, keep_few}
 use Rattle.lists.specs.Lists.{every, keep, Below}
 use Rattle.lists.proofs.Bools.{bool, and_left, and_right}
@@ -215,43 +216,37 @@ parts_fit zero bytes room h = tt
 parts_fit (suc k) bytes room h =
     (omega (arith, records_length (take 1600 bytes), length-take 1600 bytes), parts_fit k (drop 1600 bytes) room h)
 
+-- 1,600 bytes, or all where there are fewer
+first_part : (part rest : List ℕ) → length part ≡ min 1600 (length (part ++ rest)) → (take 1600 (part ++ rest) ≡ part) × (drop 1600 (part ++ rest) ≡ rest)
+first_part part rest h = bool (leb 1600 (length part))
+    (λ t. let n : length part ≡ 1600 = omega (arith, leb-true 1600 (length part) t) in (take_at part rest 1600 n, drop_at part rest 1600 n))
+    (λ t. let few = leb-false 1600 (length part) t in
+    let none : rest ≡ [] = nil_from_length rest (omega (arith, length-append part rest)) in
+    let all : part ++ rest ≡ part = ap (λ (l : List ℕ). part ++ l) none ∙ append-nil part in (
+      ap (take 1600) all ∙ take_all 1600 part (omega arith),
+      ap (drop 1600) all ∙ drop_of_length-le part {i = 1600} (omega arith) ∙ sym none,
+    ))
+
 -- a part that the program takes, and the others
-module _ (bytes : List ℕ) (from : ℕ) where
-  parts_next : from < length bytes → parts_in (drop from bytes) ≡ record_list (take 1600 (drop from bytes)) ∷ parts_in (drop (from + 1600) bytes)
-  unfolding parts_of
-  parts_next h =
-      let l : List ℕ = drop from bytes in
-      let more : (length l + 1599) / 1600 ≡ suc ((length (drop 1600 l) + 1599) / 1600) = omega (arith, length-drop from bytes, length-drop 1600 l) in
-      ap (λ (k : ℕ). parts_of k l) more
-      ∙ ap (λ (x : List ℕ). record_list (take 1600 l) ∷ parts_in x) (drop-drop 1600 from bytes)
+parts_cons : (part rest : List ℕ) {left : List ℕ} → left ≡ part ++ rest → length part ≡ min 1600 (length left) → 0 < length left → parts_in left ≡ record_list part ∷ parts_in rest
+unfolding parts_of
+parts_cons part rest {left} e h some =
+    let cut = first_part part rest (h ∙ ap (λ (l : List ℕ). min 1600 (length l)) e) in
+    let more : (length left + 1599) / 1600 ≡ suc ((length rest + 1599) / 1600) = omega (arith, ap length e, length-append part rest) in
+    ap (λ (k : ℕ). parts_of k left) more
+    ∙ ap (λ (l : List ℕ). record_list (take 1600 l) ∷ parts_of ((length rest + 1599) / 1600) (drop 1600 l)) e
+    ∙ ap₂ (λ (a b : List ℕ). record_list a ∷ parts_of ((length rest + 1599) / 1600) b) cut.0 cut.1
 
-  -- the last part ends with the records
-  module _ (to : ℕ) (e : to ≡ min (from + 1600) (length bytes)) (h : from < length bytes) where
-    parts_cut : take 1600 (drop from bytes) ≡ take (to - from) (drop from bytes)
-    parts_cut = bool (leb (from + 1600) (length bytes))
-        (λ t. let far : 1600 ≡ to - from = omega (arith, e, leb-true (from + 1600) (length bytes) t) in ap (λ (k : ℕ). take k (drop from bytes)) far)
-        (λ t. let few = leb-false (from + 1600) (length bytes) t in
-        take_all 1600 (drop from bytes) (omega (arith, length-drop from bytes)) ∙ sym (take_all (to - from) (drop from bytes) (omega (arith, e, length-drop from bytes))))
+-- parts left come to the same as all of them
+module _ (w : Written) (left : List ℕ) {whole : Written} (inv : parts_written w (parts_in left) ≡ whole) where
+  pub parts_turn : (part rest : List ℕ) {w' : Written} → left ≡ part ++ rest → length part ≡ min 1600 (length left) → 0 < length left → w' ≡ records_written (anew w) (record_list part)
+      → parts_written w' (parts_in rest) ≡ whole
+  unfolding parts_written
+  parts_turn part rest e h some s = ap (λ (x : Written). parts_written x (parts_in rest)) s ∙ ap (parts_written w) (sym (parts_cons part rest e h some)) ∙ inv
 
-    parts_rest : drop (from + 1600) bytes ≡ drop to bytes
-    parts_rest = bool (leb (from + 1600) (length bytes))
-        (λ t. let far : from + 1600 ≡ to = omega (arith, e, leb-true (from + 1600) (length bytes) t) in ap (λ (k : ℕ). drop k bytes) far)
-        (λ t. let few = leb-false (from + 1600) (length bytes) t in
-        drop_of_length-le bytes {i = from + 1600} (omega arith) ∙ sym (drop_of_length-le bytes {i = to} (omega (arith, e))))
-
-    pub parts_turn : (w : Written) {w' whole : Written} → parts_written w (parts_in (drop from bytes)) ≡ whole → w' ≡ records_written (anew w) (record_list (take (to - from) (drop from bytes)))
-        → parts_written w' (parts_in (drop to bytes)) ≡ whole
-    unfolding parts_written
-    parts_turn w inv s =
-        ap (λ (x : Written). parts_written x (parts_in (drop to bytes))) s
-        ∙ ap (λ (x : List ℕ). parts_written (records_written (anew w) (record_list x)) (parts_in (drop to bytes))) (sym parts_cut)
-        ∙ ap (λ (x : List ℕ). parts_written (records_written (anew w) (record_list (take 1600 (drop from bytes)))) (parts_in x)) (sym parts_rest)
-        ∙ ap (parts_written w) (sym (parts_next h))
-        ∙ inv
-
-  pub parts_end : {w whole : Written} → parts_written w (parts_in (drop from bytes)) ≡ whole → length bytes ≤ from → w ≡ whole
+  pub parts_end : length left ≡ 0 → w ≡ whole
   unfolding parts_written parts_of
-  parts_end {w} inv h = ap (λ (x : List ℕ). parts_written w (parts_in x)) (sym (drop_of_length-le bytes {i = from} h)) ∙ inv
+  parts_end h = ap (λ (l : List ℕ). parts_written w (parts_in l)) (sym (nil_from_length left h)) ∙ inv
 
 -- the theorem, of these parts, and a text of 16,000 bytes
 pub program_listing : (file : List ℕ) (n count total : ℕ) (records edges places text : List ℕ) → Ready file n count total records edges places → Below 256 records → 16000 ≤ length text

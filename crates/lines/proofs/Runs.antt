@@ -1,7 +1,7 @@
 -- Records listed one after the other: what the steps come to, and their lines. Assumes nothing.
 use mathlib.Core.Path.{◌≡◌, refl, sym, ap, subst, ◌∙◌}
 use mathlib.Core.Bool.{Bool, true, false, cond}
-use mathlib.Core.List.{List, [], ◌∷◌}
+use mathlib.Core.List.{List, [], ◌∷◌, ◌++◌}
 use Prim.Native.Nat.{ℕ, suc, ◌+◌, ◌≤◌, ◌<◌}
 use native.Mathlib.Omega.{arith}
 use lib.ListN.{length, get_or, drop, drop_of_length-le}
@@ -16,7 +16,8 @@ use Rattle.desk.specs.Desks.{fresh_desk}
 use Rattle.replay.specs.declared.Step.{Step}
 use Rattle.runs.specs.Run.{State, Ran, also_ran, run}
 use Rattle.replay.proofs.Outcomes.{performs_state}
-use Rattle.replay.specs.Replay.{StepAnswer, answer_in, answers_of, state_of, values_in, start_of, step_records, is_record, is_step, perform_step, Performed, performed, perform_if, perform}
+use Rattle.replay.proofs.Chunks.{records_cons, records_none}
+use Rattle.replay.specs.Replay.{StepAnswer, record_list, answer_in, answers_of, state_of, values_in, start_of, step_records, is_record, is_step, perform_step, Performed, performed, perform_if, perform}
 use Rattle.replay.specs.Replay.{perform_all, holders_at}
 use Rattle.replay.specs.Answers.{step_meaning, Performs}
 use Rattle.lines.specs.declared.Progress.{Progress}
@@ -49,16 +50,15 @@ module _ (H : Hierarchy) (p : Progress) (bytes values text : List ℕ) {k : ℕ}
       made : State → ℕ → Page → Written
       made state number page = record { state = state; number = number; page = page }
 
--- RECORDS LEFT, from here on, come to the same as all of them
-module _ (rs : List (List ℕ)) (i : ℕ) (w : Written) {whole : Written} (inv : records_written w (drop i rs) ≡ whole) where
-  pub records_turn : {r : List ℕ} {w' : Written} → get_or rs i [] ≡ r → i < length rs → w' ≡ record_written w r → records_written w' (drop (i + 1) rs) ≡ whole
+-- RECORDS LEFT come to the same as all of them
+module _ (w : Written) (left : List ℕ) {whole : Written} (inv : records_written w (record_list left) ≡ whole) where
+  pub records_turn : (r rest : List ℕ) {w' : Written} → left ≡ r ++ rest → length r ≡ 16 → w' ≡ record_written w r → records_written w' (record_list rest) ≡ whole
   unfolding records_written
-  records_turn {r} at h e =
-      ap (λ (x : Written). records_written x (drop (i + 1) rs)) e ∙ ap (records_written w) (sym (drop_step rs i [] at h)) ∙ inv
+  records_turn r rest e h s = ap (λ (x : Written). records_written x (record_list rest)) s ∙ ap (records_written w) (sym (records_cons r rest e h)) ∙ inv
 
-  pub records_end : length rs ≤ i → w ≡ whole
+  pub records_end : length left < 16 → w ≡ whole
   unfolding records_written
-  records_end h = ap (records_written w) (sym (drop_of_length-le rs h)) ∙ inv
+  records_end h = ap (records_written w) (sym (records_none left h)) ∙ inv
 
 -- THE PLACE stays within the text
 pub records_within : (rs : List (List ℕ)) (w : Written) → w.page.at ≤ length w.page.text

@@ -1,11 +1,11 @@
 -- What listing a file into lent places leaves. Assumes nothing.
-use Rattle.std.specs.Prelude.{◌≡◌, ◌||◌, List, [], ◌∷◌, ℕ, ltb, length}
+use Rattle.std.specs.Prelude.{◌≡◌, ◌||◌, List, [], ◌∷◌, ℕ, ltb, length, Result}
 use Rattle.std.proofs.Math.Option.{Option}
 use Rattle.lists.specs.Answer.{Answer, done, refused as denied, ◌when◌, refusal, answer_of, room_after}
 use Rattle.replay.specs.Replay.{FileRun, run_file}
 use Rattle.texts.specs.Lines.{listing}
-use Rattle.lines.specs.declared.ListingAnswer.{ListingAnswer}
-use Rattle.lines.specs.declared.ListingAnswer.TheVariants.{Listed, Refused}
+use Rattle.refusals.specs.declared.Refusal.{Refusal}
+use Rattle.refusals.specs.Refusals.{meaning}
 
 -- the values after the file; none where it is refused
 abbrev pub values_of : Answer FileRun → List ℕ
@@ -31,13 +31,8 @@ list_file file values text =
       text = room_after (listing_refusal values text) (listing (run_file file)) text;
     }
 
--- what each case of the answer is in the paper
-abbrev pub listing_meaning : ListingAnswer → Answer ℕ
-listing_meaning (Listed bytes) = done bytes
-listing_meaning (Refused k) = denied k
-
 -- what `listing` promises
-pub record Lists (r : ListingAnswer) (values text : List ℕ) (s : ListingResult) : Type 0 where
-  pub answer : listing_meaning r ≡ s.answer
+pub record Lists (r : Result ℕ Refusal) (values text : List ℕ) (s : ListingResult) : Type 0 where
+  pub answer : meaning r ≡ s.answer
   pub values_after : values ≡ s.values
   pub text_after : text ≡ s.text

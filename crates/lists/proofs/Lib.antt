@@ -1,4 +1,6 @@
 -- What the proofs of every layer use.
+pub mod Std
+pub mod Chains
 pub mod Bools
 pub mod Refusals
 pub mod Numbers

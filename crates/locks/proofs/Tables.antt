@@ -1,23 +1,17 @@
 -- What is read of the lent tables: intervals that are wrong, covers, names. Assumes nothing.
 use mathlib.Core.Path.{◌≡◌, refl, sym, ap, ◌∙◌}
-use mathlib.Core.List.{List}
 use mathlib.Core.Bool.{Bool, true, false, not, ◌&&◌, ◌||◌}
 use Prim.Native.Nat.{ℕ, ◌*◌, ◌/◌, ◌-◌, ◌≤◌, ◌<◌}
 use native.Mathlib.Omega.{arith}
 use lib.Dec.{eqb, leb, ltb}
-use lib.ListN.{length, take, get_or-eq_default}
-use lib.Seq.{take_all}
+use lib.ListN.{length, get_or-eq_default}
 use borrow.Author.Tests.{eqb-true, lt-ltb, le-ltb, lt-leb, leb-true, ltb-true, ltb-false, not-false}
 use Rattle.lists.specs.Lists.{any_below}
-use Rattle.covers.specs.Cover.{interval_at}
-use Rattle.covers.specs.declared.Interval.{Interval}
 use Rattle.lists.proofs.Bools.{bool, and_left, and_right, or_left, or_right, over_not, three_not}
 use Rattle.lists.proofs.Bounded.{any_none, any_stop}
-use Rattle.locks.specs.declared.Mode.{Mode}
 use Rattle.locks.specs.declared.Lock.{Lock}
-use Rattle.naming.specs.declared.Names.{Names}
 use Rattle.locks.specs.Locks.{real_interval}
-use Rattle.locks.specs.Lent.{Hierarchy, spanned, low_in, high_in, interval_wrong, lock_on, cover_right}
+use Rattle.locks.specs.Lent.{Hierarchy, low_in, high_in, interval_wrong, cover_right}
 use Rattle.locks.specs.Inner.{outside}
 
 -- half of a length is below a number just where the length is below twice the number
@@ -26,18 +20,6 @@ half_ltb a b =
     bool (ltb (a / 2) b)
     (λ e. e ∙ sym (lt-ltb a (2 * b) (let h : a / 2 < b = ltb-true (a / 2) b e in omega arith)))
     (λ e. e ∙ sym (le-ltb a (2 * b) (let h : b ≤ a / 2 = ltb-false (a / 2) b e in omega arith)))
-
--- a right cover, by what was read of it
-abbrev pub right_with : Lock → ℕ → Interval → Bool
-right_with l n i = ltb l.cover n && eqb i.low l.low && eqb i.high l.high
-
-pub right_by : (n : ℕ) (table : List ℕ) (l : Lock) (i : Interval) → i ≡ interval_at table l.cover → cover_right (spanned n table) l ≡ right_with l n i
-right_by n table l i p = ap (right_with l n) (sym p)
-
--- the lock on a cover, by what was read of it
-pub lock_by : (table : List ℕ) (mode : Mode) (cover : ℕ) (names : Names) (i : Interval) → i ≡ interval_at table cover
-    → record { mode = mode; cover = cover; low = i.low; high = i.high; names = names } ≡ lock_on (spanned 0 table) mode cover names
-lock_by table mode cover names i p = ap (λ (x : Interval). record { mode = mode; cover = cover; low = x.low; high = x.high; names = names }) p
 
 -- the five tests of an interval
 pub outside_tests : (low high least most : ℕ) → ((((ltb low 1 || ltb high low) || ltb 256 high) || ltb low least) || ltb most high) ≡ outside low high least most
@@ -50,12 +32,11 @@ no_high : (low : ℕ) → real_interval low 0 ≡ false
 no_high low = bool (leb 1 low) (λ e. let some : 1 ≤ low = leb-true 1 low e in rw (e, lt-leb low 0 (omega arith)) refl) (λ e. rw e refl)
 
 -- a table that is too short has a wrong interval: that of the last node
-pub short_wrong : (n m : ℕ) (intervals : List ℕ) → length intervals / 2 < n → any_below n (interval_wrong (spanned m intervals)) ≡ true
-short_wrong n m intervals h =
-    let H = spanned m intervals in
-    let last : high_in H (n - 1) ≡ 0 = get_or-eq_default intervals 0 (omega arith) in
-    let none : real_interval (low_in H (n - 1)) (high_in H (n - 1)) ≡ false = ap (real_interval (low_in H (n - 1))) last ∙ no_high (low_in H (n - 1)) in
-    any_stop (interval_wrong H) n (n - 1) (omega arith) (rw none refl)
+pub short_wrong : (H : Hierarchy) → length H.intervals / 2 < H.n → any_below H.n (interval_wrong H) ≡ true
+short_wrong H h =
+    let last : high_in H (H.n - 1) ≡ 0 = get_or-eq_default H.intervals 0 (omega arith) in
+    let none : real_interval (low_in H (H.n - 1)) (high_in H (H.n - 1)) ≡ false = ap (real_interval (low_in H (H.n - 1))) last ∙ no_high (low_in H (H.n - 1)) in
+    any_stop (interval_wrong H) H.n (H.n - 1) (omega arith) (rw none refl)
 
 -- the interval of a node, where refusal 10 finds none wrong, is real and inside node 0's
 pub not_wrong : (H : Hierarchy) (node : ℕ) → any_below H.n (interval_wrong H) ≡ false → node < H.n
@@ -81,7 +62,3 @@ lock_covered H l right e =
     let same : low_in H l.cover ≡ l.low = eqb-true _ _ (and_right below low two) in
     let same' : high_in H l.cover ≡ l.high = eqb-true _ _ (and_right (below && low) high e) in
     ap (λ (k : ℕ). real_interval k l.high) (sym same) ∙ ap (real_interval (low_in H l.cover)) (sym same') ∙ (not_wrong H l.cover right here).0
-
--- a list that is shorter than a count is all that the count takes of it
-pub short_take : (names : List ℕ) (k : ℕ) → length names < k → take (length names) names ≡ take k names
-short_take names k h = take_all (length names) names (omega arith) ∙ sym (take_all k names (omega arith))

@@ -5,6 +5,7 @@ use Rattle.hierarchy.specs.Hierarchy.{edges_of, in_reach}
 use Rattle.covers.specs.Cover.{low_at, high_at, cover_of}
 use Rattle.naming.specs.declared.Names.{Names}
 use Rattle.naming.specs.Names.{names_of, names_right, ascending, named}
+use Rattle.locks.specs.declared.Lent.{Lent}
 use Rattle.locks.specs.declared.Mode.{Mode}
 use Rattle.locks.specs.declared.Lock.{Lock}
 use Rattle.locks.specs.declared.Stage.{Stage}
@@ -21,6 +22,10 @@ pub record Hierarchy : Type 0 where
 -- the hierarchy of what a method is given
 abbrev pub lent : ℕ → List ℕ → List ℕ → ℕ → Hierarchy
 lent n intervals edges edge_count = record { n = n; intervals = intervals; edges = edges; edge_count = edge_count }
+
+-- the hierarchy of the tables that a method is lent
+abbrev pub lent_in : Lent → Hierarchy
+lent_in tables = lent tables.n tables.intervals.now tables.edges.numbers.now tables.edges.count
 
 -- the same where only n and the intervals matter
 abbrev pub spanned : ℕ → List ℕ → Hierarchy

@@ -1,12 +1,14 @@
 -- What a record adds to the waits, and what is left to count after it. Assumes nothing.
 use mathlib.Core.Path.{◌≡◌, refl, sym, ap, ◌∙◌}
-use mathlib.Core.List.{List, [], ◌∷◌}
-use mathlib.Core.Bool.{Bool, true, false, not}
+use mathlib.Core.List.{List, [], ◌∷◌, ◌++◌}
+use mathlib.Core.Bool.{Bool, true, false, not, ◌&&◌}
 use Prim.Native.Nat.{ℕ, ◌+◌, ◌≤◌, ◌<◌}
 use native.Mathlib.Omega.{arith}
-use lib.ListN.{length, get_or, drop, replicate, drop_of_length-le}
-use Rattle.lists.specs.Lists.{one, kept_if, keep}
-use Rattle.lists.proofs.Loops.{drop_step, keep_few}
+use lib.ListN.{length, replicate}
+use Rattle.lists.specs.Lists.{one, kept_if, keep, every}
+use Rattle.lists.proofs.Bools.{and_left, and_right}
+use Rattle.lists.proofs.Loops.{keep_few}
+use Rattle.replay.proofs.Chunks.{records_cons, records_none}
 use Rattle.hierarchy.specs.Hierarchy.{edges_of}
 use Rattle.octets.specs.Bytes.{byte}
 use Rattle.blocks.specs.Record.{kind_of, party_in, mode_in, names_in, step_kind}
@@ -15,7 +17,7 @@ use Rattle.locks.specs.Lent.{Hierarchy}
 use Rattle.runs.specs.Run.{State}
 use Rattle.replay.specs.declared.Outcome.{Outcome}
 use Rattle.replay.specs.declared.Step.{Step}
-use Rattle.replay.specs.Replay.{StepAnswer, granted, waits, value, stored, added, left, refused, state_of, values_in, start_of, step_records}
+use Rattle.replay.specs.Replay.{StepAnswer, granted, waits, value, stored, added, left, refused, state_of, values_in, start_of, step_records, record_list}
 use Rattle.replay.specs.Replay.{is_record, is_step, perform_step, Performed, performed, perform_if, perform}
 use Rattle.replay.specs.Answers.{outcome_of, Performs}
 use Rattle.replay.proofs.Outcomes.{performs_state}
@@ -145,47 +147,53 @@ steps_few s named (r ∷ rs) =
     let g = steps_few m.state (named_after r m.answer named) rs in
     (omega (arith, f.0, g.0), omega (arith, f.1, g.1))
 
--- between two records, of all of them
-pub record Counting (H : Hierarchy) (sets : List ℕ) (rs : List (List ℕ)) (values₀ : List ℕ) (i : ℕ) (p : Progress) (values called : List ℕ) : Type 0 where
-  pub so_far : i ≤ length rs
-  pub values_long : length values ≡ length values₀
+-- between two records, of all of them: those left are right and come to the same
+pub record Counting (H : Hierarchy) (sets records ahead : List ℕ) (p : Progress) (values called : List ℕ) : Type 0 where
+  pub right : every is_record (record_list ahead) ≡ true
   pub named : List (List ℕ)
   pub called_for : Called sets named called
-  pub rest : waits_left H p values named (drop i rs) ≡ waits_of_steps (start_of H rs) nothing_named (step_records rs)
+  pub rest : waits_left H p values named (record_list ahead) ≡ waits_of_steps (start_of H (record_list records)) nothing_named (step_records (record_list records))
 
-module _ (H : Hierarchy) (sets : List ℕ) (rs : List (List ℕ)) (values₀ : List ℕ) where
-  pub counting_start : (p : Progress) (called : List ℕ) → p ≡ record { desk = (start_of H rs).desk; waits = no_waits } → values₀ ≡ values_in H.n rs → called ≡ replicate 128 0
-      → Counting H sets rs values₀ 0 p values₀ called
-  counting_start p called e v g =
+module _ (H : Hierarchy) (sets records : List ℕ) where
+  pub counting_start : (ahead : List ℕ) (p : Progress) (values called : List ℕ) → ahead ≡ records → every is_record (record_list records) ≡ true
+      → p ≡ record { desk = (start_of H (record_list records)).desk; waits = no_waits } → values ≡ values_in H.n (record_list records) → called ≡ replicate 128 0
+      → Counting H sets records ahead p values called
+  counting_start ahead p values called l right e v g =
       record {
-        so_far = omega arith;
-        values_long = refl;
+        right = ap (λ (x : List ℕ). every is_record (record_list x)) l ∙ right;
         named = nothing_named;
         called_for = rw g (called_start sets);
-        rest = rw (e, v) (none_plus (waits_of_steps (start_of H rs) nothing_named (step_records rs)));
+        rest = rw (l, e, v) (none_plus (waits_of_steps (start_of H (record_list records)) nothing_named (step_records (record_list records))));
       }
 
-  module _ (i : ℕ) (p : Progress) (values called : List ℕ) (k : Counting H sets rs values₀ i p values called) where
+  module _ (ahead : List ℕ) (p : Progress) (values called : List ℕ) (k : Counting H sets records ahead p values called) where
     -- no count passes that of the records
-    pub counting_few : (p.waits.all ≤ length rs) × (p.waits.needless ≤ length rs)
+    pub counting_few : (p.waits.all ≤ length (record_list records)) × (p.waits.needless ≤ length (record_list records))
     counting_few =
-        let f = steps_few (start_of H rs) nothing_named (step_records rs) in
-        let n = keep_few (λ r. step_kind (kind_of r)) rs in
+        let f = steps_few (start_of H (record_list records)) nothing_named (step_records (record_list records)) in
+        let n = keep_few (λ r. step_kind (kind_of r)) (record_list records) in
         (omega (arith, ap (λ (w : Waits). w.all) k.rest, f.0, n), omega (arith, ap (λ (w : Waits). w.needless) k.rest, f.1, n))
 
-    pub counting_more : i < length rs → {bytes : List ℕ} → get_or rs i [] ≡ bytes → (p' : Progress) (values' called' : List ℕ) → length values' ≡ length values
-        → ((named : List (List ℕ)) → Called sets named called → Counted H sets bytes p values named p' values' called') → Counting H sets rs values₀ (i + 1) p' values' called'
-    counting_more h {bytes} at p' values' called' l f =
-        let d = f k.named k.called_for in
-        record {
-          so_far = omega arith;
-          values_long = l ∙ k.values_long;
-          named = d.named';
-          called_for = d.called_for;
-          rest = d.left (drop (i + 1) rs) ∙ ap (waits_left H p values k.named) (sym (drop_step rs i [] at h)) ∙ k.rest;
-        }
+    -- the first record left, and the others
+    module _ (bytes rest : List ℕ) (e : ahead ≡ bytes ++ rest) (h : length bytes ≡ 16) where
+      rights : is_record bytes && every is_record (record_list rest) ≡ true
+      unfolding every
+      rights = ap (every is_record) (sym (records_cons bytes rest e h)) ∙ k.right
 
-    pub counting_end : length rs ≤ i → p.waits ≡ waits_of_steps (start_of H rs) nothing_named (step_records rs)
+      pub counting_right : is_record bytes ≡ true
+      counting_right = and_left (is_record bytes) _ rights
+
+      pub counting_more : (p' : Progress) (values' called' : List ℕ)
+          → ((named : List (List ℕ)) → Called sets named called → Counted H sets bytes p values named p' values' called') → Counting H sets records rest p' values' called'
+      counting_more p' values' called' f =
+          let d = f k.named k.called_for in
+          record {
+            right = and_right (is_record bytes) _ rights;
+            named = d.named';
+            called_for = d.called_for;
+            rest = d.left (record_list rest) ∙ ap (waits_left H p values k.named) (sym (records_cons bytes rest e h)) ∙ k.rest;
+          }
+
+    pub counting_end : length ahead < 16 → p.waits ≡ waits_of_steps (start_of H (record_list records)) nothing_named (step_records (record_list records))
     unfolding keep waits_of_steps
-    counting_end h =
-        sym (plus_none p.waits) ∙ ap (waits_left H p values k.named) (sym (drop_of_length-le rs {i = i} h)) ∙ k.rest
+    counting_end h = sym (plus_none p.waits) ∙ ap (waits_left H p values k.named) (sym (records_none ahead h)) ∙ k.rest

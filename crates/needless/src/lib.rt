@@ -1,22 +1,22 @@
 // The report over a file (02, point 2): all waits, and the needless ones.
 #![tactic(auto)]
 
-ghost use Rattle.std.specs.Prelude.{◌≡◌, true, not, ◌+◌, ◌*◌, ◌<◌, ◌≤◌, length, take, replicate};
-ghost use Rattle.lists.specs.Lists.{one, every};
-ghost use Rattle.hierarchy.specs.Hierarchy.{edges_of};
+ghost use Rattle.std.specs.Prelude.{◌≡◌, true, not, ◌*◌, ◌<◌, ◌≤◌, length, take, replicate};
+ghost use Rattle.lists.specs.Lists.{every};
+ghost use Rattle.hierarchy.specs.Hierarchy.{edges_in};
 ghost use Rattle.blocks.specs.Record.{party_in, mode_in, names_in};
 ghost use Rattle.locks.specs.Locks.{mode_numbered};
-ghost use Rattle.locks.specs.Lent.{lent};
+ghost use Rattle.locks.specs.Lent.{lent, lent_in};
 ghost use Rattle.reach_sets.specs.Sets.{call_set};
 ghost use Rattle.replay.specs.Replay.{record_list, is_record, step_records, values_in, start_of};
-ghost use Rattle.needless.specs.Waits.{no_waits, nothing_named, plus, waits_of_steps, waits_of};
+ghost use Rattle.needless.specs.Waits.{nothing_named, plus, waits_of_steps, waits_of};
 ghost use Rattle.needless.specs.Inner.{here, mode_of, set_in_way, some_in_way, visits, waited, waits_if, called_after, Counts, Sets, Countable};
 
 use arrivals::PARTIES;
 use blocks::RECORD;
 use desk::Desk;
-use locks::{Mode, Stage};
-use opening::OpenAnswer;
+use hierarchy::EdgeTable;
+use locks::{Lent, Mode, Stage};
 use parties::Entry;
 use reach_sets::NodeSet;
 use replay::Outcome;
@@ -35,15 +35,17 @@ struct Progress {
     waits: Waits,
 }
 
+// No wait.
+const NO_WAITS: Waits = Waits {
+    all: 0,
+    needless: 0,
+};
+
 // A WAIT. Whether a party at this stage holds or waits.
 fn is_here(stage: Stage) -> bool
     ensures { result ≡ here stage }
 {
-    match stage {
-        Stage::Out => false,
-        Stage::Waiting(_l) => true,
-        Stage::Holding(_l) => true,
-    }
+    matches!(stage, Stage::Waiting(_) | Stage::Holding(_))
 }
 
 // Its mode; of one that is out, which is asked for none, writing.
@@ -52,8 +54,7 @@ fn mode_of(stage: Stage) -> Mode
 {
     match stage {
         Stage::Out => Mode::Writing,
-        Stage::Waiting(l) => l.mode,
-        Stage::Holding(l) => l.mode,
+        Stage::Waiting(l) | Stage::Holding(l) => l.mode,
     }
 }
 
@@ -70,17 +71,14 @@ fn in_way(stage: Stage, theirs: NodeSet, mode: Mode, set: NodeSet) -> bool
 fn some_in_way(entries: [Entry; PARTIES], called: &[u64], mode: Mode, set: NodeSet) -> bool
     ensures { result ≡ some_in_way entries called.now mode set }
 {
-    let mut i = 0;
-    while i < PARTIES {
-        let e = entries[i];
-        let stage = e.stage;
-        let theirs = reach_sets::set_at(called, i);
-        if in_way(stage, theirs, mode, set) {
-            return true;
-        }
-        i += 1;
-    }
-    false
+    (0..PARTIES).any(|party| {
+        in_way(
+            entries[party].stage,
+            reach_sets::set_at(called, party),
+            mode,
+            set,
+        )
+    })
 }
 
 // The set of the call of an enter record: all that its names reach.
@@ -91,49 +89,21 @@ fn call_in(sets: &[u64], bytes: &[u8]) -> NodeSet
         return reach_sets::none();
     }
     let count = replay::names_in(bytes);
-    let end = 4 + count;
-    reach_sets::call_set(sets, &bytes[4..end])
+    reach_sets::call_set(sets, &bytes[4..4 + count])
 }
 
 // Whether an answer makes a visit: granted or waits.
 fn visited(outcome: Outcome) -> bool
     ensures { result ≡ visits outcome }
 {
-    match outcome {
-        Outcome::Granted(_cover) => true,
-        Outcome::Waits => true,
-        Outcome::Value(_v) => false,
-        Outcome::Stored => false,
-        Outcome::Added => false,
-        Outcome::Left(_count) => false,
-        Outcome::Refused(_number) => false,
-    }
+    matches!(outcome, Outcome::Granted(_) | Outcome::Waits)
 }
 
 // Whether an answer is waits.
 fn is_wait(outcome: Outcome) -> bool
     ensures { result ≡ waited outcome }
 {
-    match outcome {
-        Outcome::Granted(_cover) => false,
-        Outcome::Waits => true,
-        Outcome::Value(_v) => false,
-        Outcome::Stored => false,
-        Outcome::Added => false,
-        Outcome::Left(_count) => false,
-        Outcome::Refused(_k) => false,
-    }
-}
-
-// A count, and one more where the test holds.
-fn more_if(count: usize, more: bool) -> usize
-    requires { count < 18446744073709551615 }
-    ensures { result ≡ count + one more }
-{
-    if more {
-        return count + 1;
-    }
-    count
+    matches!(outcome, Outcome::Waits)
 }
 
 // The waits so far and those of a step, by its answer: a wait is judged on the desk and by the sets before the step.
@@ -153,12 +123,10 @@ fn tally(
     }
     let m = octets::byte(bytes, 2);
     let mode = locks::mode_when(m == 1, m == 2);
-    let set = call_in(sets, bytes);
-    let entries = desk.entries;
-    let needful = some_in_way(entries, called, mode, set);
+    let needful = some_in_way(desk.entries, called, mode, call_in(sets, bytes));
     Waits {
         all: before.all + 1,
-        needless: more_if(before.needless, !needful),
+        needless: before.needless + usize::from(!needful),
     }
 }
 
@@ -167,29 +135,15 @@ fn keep_call(outcome: Outcome, sets: &[u64], bytes: &[u8], called: &mut [u64])
     ensures { called.new ≡ called_after (visits outcome) (party_in bytes.now) (call_set sets.now (names_in bytes.now)) called.old }
 {
     if visited(outcome) {
-        let party = octets::byte(bytes, 1) as usize;
-        let set = call_in(sets, bytes);
-        reach_sets::put_set(called, party, set);
+        let party = usize::from(octets::byte(bytes, 1));
+        reach_sets::put_set(called, party, call_in(sets, bytes));
     }
 }
 
-// THE FILE. No wait.
-fn no_waits() -> Waits
-    ensures { result ≡ no_waits }
-{
-    Waits {
-        all: 0,
-        needless: 0,
-    }
-}
-
-// One record: of a kind that is no step's, it changes nothing; any other is performed, and counted where it waits.
+// THE FILE. One record: of a kind that is no step's, it changes nothing; any other is performed, and counted where it waits.
 fn count_step(
     progress: Progress,
-    n: usize,
-    intervals: &[u16],
-    edges: &[u16],
-    edge_count: usize,
+    tables: &Lent<'_>,
     sets: &[u64],
     bytes: &[u8],
     values: &mut [u64],
@@ -197,113 +151,75 @@ fn count_step(
 ) -> Progress
     requires bytes_value { is_record bytes.now ≡ true }
     requires all_bound { (progress.waits.all < 18446744073709551615) × (progress.waits.needless < 18446744073709551615) }
-    ensures { Counts (lent n intervals.now edges.now edge_count) sets.now bytes.now progress values.old called.old result values.new called.new }
+    ensures { Counts (lent_in tables.now) sets.now bytes.now progress values.old called.old result values.new called.new }
 {
-    let desk = progress.desk;
-    let so_far = progress.waits;
     if !blocks::step_kind(octets::byte(bytes, 0)) {
-        return Progress {
-            desk,
-            waits: so_far,
-        };
+        return progress;
     }
-    let step = replay::perform(desk, n, intervals, edges, edge_count, bytes, values);
+    let desk = progress.desk;
+    let step = replay::perform(desk, tables, bytes, values);
     let next = step.desk;
     let outcome = step.outcome;
-    let counts = tally(so_far, outcome, desk, called, sets, bytes);
+    let waits = tally(progress.waits, outcome, desk, called, sets, bytes);
     keep_call(outcome, sets, bytes, called);
-    Progress {
-        desk: next,
-        waits: counts,
-    }
+    Progress { desk: next, waits }
 }
 
 // All records, from a fresh desk on, over a built hierarchy and the sets of its reaches; nobody has called for anything yet.
 fn count_steps(
-    n: usize,
-    intervals: &[u16],
-    edges: &[u16],
-    edge_count: usize,
+    tables: &Lent<'_>,
     sets: &[u64],
     records: &[u8],
     values: &mut [u64],
     called: &mut [u64],
 ) -> Waits
     requires records_value { every is_record (record_list records.now) ≡ true }
-    requires sets { Sets n (edges_of edges.now edge_count) sets.now }
+    requires sets { Sets tables.now.n (edges_in tables.now.edges) sets.now }
     requires called_value { called.old ≡ replicate 128 0 }
-    requires values_value { values.old ≡ values_in n (record_list records.now) }
-    ensures { result ≡ waits_of_steps (start_of (lent n intervals.now edges.now edge_count) (record_list records.now)) nothing_named (step_records (record_list records.now)) }
+    requires values_value { values.old ≡ values_in tables.now.n (record_list records.now) }
+    ensures { result ≡ waits_of_steps (start_of (lent_in tables.now) (record_list records.now)) nothing_named (step_records (record_list records.now)) }
 {
-    let total = records.len() / RECORD;
     let mut progress = Progress {
         desk: Desk::fresh(),
-        waits: no_waits(),
+        waits: NO_WAITS,
     };
-    let mut i = 0;
-    while i < total {
-        let from = RECORD * i;
-        let to = from + RECORD;
-        progress = count_step(
-            progress,
-            n,
-            intervals,
-            edges,
-            edge_count,
-            sets,
-            &records[from..to],
-            values,
-            called,
-        );
-        i += 1;
+    for bytes in records.chunks_exact(RECORD) {
+        progress = count_step(progress, tables, sets, bytes, values, called);
     }
     progress.waits
 }
 
 // All records, from a fresh desk and the values of the records on.
 fn count_records(
-    n: usize,
-    intervals: &[u16],
-    edges: &[u16],
-    edge_count: usize,
+    tables: &Lent<'_>,
     sets: &[u64],
     records: &[u8],
     values: &mut [u64],
     called: &mut [u64],
 ) -> Waits
     requires records_value { every is_record (record_list records.now) ≡ true }
-    requires sets { Sets n (edges_of edges.now edge_count) sets.now }
+    requires sets { Sets tables.now.n (edges_in tables.now.edges) sets.now }
     requires called_value { called.old ≡ replicate 128 0 }
-    requires values_len { length values.old ≡ n }
-    ensures { result ≡ waits_of_steps (start_of (lent n intervals.now edges.now edge_count) (record_list records.now)) nothing_named (step_records (record_list records.now)) }
+    requires values_len { length values.old ≡ tables.now.n }
+    ensures { result ≡ waits_of_steps (start_of (lent_in tables.now) (record_list records.now)) nothing_named (step_records (record_list records.now)) }
 {
     replay::values(records, values);
-    count_steps(
-        n, intervals, edges, edge_count, sets, records, values, called,
-    )
+    count_steps(tables, sets, records, values, called)
 }
 
 // Works out the reaches of a built hierarchy, and counts.
-fn count_built(
-    n: usize,
-    intervals: &[u16],
-    edges: &[u16],
-    edge_count: usize,
-    records: &[u8],
-) -> Waits
-    requires { Countable n edge_count edges.now records.now }
-    ensures { result ≡ waits_of_steps (start_of (lent n intervals.now edges.now edge_count) (record_list records.now)) nothing_named (step_records (record_list records.now)) }
+fn count_built(tables: &Lent<'_>, records: &[u8]) -> Waits
+    requires { Countable tables.now.n tables.now.edges.count tables.now.edges.numbers.now records.now }
+    ensures { result ≡ waits_of_steps (start_of (lent_in tables.now) (record_list records.now)) nothing_named (step_records (record_list records.now)) }
 {
+    let n = tables.n;
     let mut sets = [0u64; reach_sets::WORDS];
     let words = 4 * n;
-    reach_sets::sets(n, edges, edge_count, &mut sets[..words]);
+    let _ = reach_sets::sets(n, &tables.edges, &mut sets[..words]);
     let mut values = [0u64; hierarchy::NODES];
     let mut called = [0u64; 128];
     count_records(
-        n,
-        intervals,
-        edges,
-        edge_count,
+        tables,
         &sets[..words],
         records,
         &mut values[..n],
@@ -324,16 +240,15 @@ fn count_opened(
     requires countable { Countable n edge_count (take (2 * edge_count) edges.now) (take (16 * total) records.now) }
     ensures { result ≡ waits_of_steps (start_of (lent n (take (2 * n) places.now) (take (2 * edge_count) edges.now) edge_count) (record_list (take (16 * total) records.now))) nothing_named (step_records (record_list (take (16 * total) records.now))) }
 {
-    let low = 2 * n;
-    let ends = 2 * edge_count;
-    let bytes = RECORD * total;
-    count_built(
+    let tables = Lent {
         n,
-        &places[..low],
-        &edges[..ends],
-        edge_count,
-        &records[..bytes],
-    )
+        intervals: &places[..2 * n],
+        edges: EdgeTable {
+            numbers: &edges[..2 * edge_count],
+            count: edge_count,
+        },
+    };
+    count_built(&tables, &records[..RECORD * total])
 }
 
 // The report over a file.
@@ -343,11 +258,17 @@ pub fn report(file: &[u8]) -> Waits
     let mut records = [0u8; opening::RECORD_BYTES];
     let mut edges = [0u16; opening::EDGE_PLACES];
     let mut places = [0u16; opening::INTERVAL_PLACES];
-    let answer = opening::open_run(file, &mut records, &mut edges, &mut places);
-    match answer {
-        OpenAnswer::Refused(_k) => no_waits(),
-        OpenAnswer::Opened(n, edge_count, total) => {
-            count_opened(n, &places, &edges, edge_count, &records, total)
+    match opening::open_run(file, &mut records, &mut edges, &mut places) {
+        Err(_) => NO_WAITS,
+        Ok(opened) => {
+            count_opened(
+                opened.n,
+                &places,
+                &edges,
+                opened.edge_count,
+                &records,
+                opened.total,
+            )
         }
     }
 }

@@ -1,4 +1,3 @@
 -- What the proofs of several functions use; the crates above cite Writes.
-mod Numbers
 mod Words
 pub mod Writes

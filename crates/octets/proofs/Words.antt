@@ -2,7 +2,7 @@
 use mathlib.Core.Path.{◌≡◌, refl, sym, ap, ◌∙◌}
 use mathlib.Core.List.{List, [], ◌∷◌}
 use Prim.Native.Nat.{ℕ, zero, suc, ◌+◌, ◌*◌, ◌/◌, ◌%◌, ◌<◌, ◌≤◌}
-use native.Mathlib.Nat.{add-mod, mod-add-mod, mod-eq_of_lt, add-zero, le_of_suc-le-suc, not-suc-le-zero}
+use native.Mathlib.Nat.{add-mod, mod-add-mod, add-zero, le_of_suc-le-suc, not-suc-le-zero}
 use native.Mathlib.Numerals.{add-one}
 use native.Mathlib.Omega.{arith}
 use lib.ListN.{length, get_or, drop, drop_of_length-le, get_or-eq_default}
@@ -32,10 +32,6 @@ turn_late s a b i {r} h e =
     ∙ ap (λ (n : ℕ). sums n ((b % 65535 + n) % 65535) (words (drop (i + 2) s))) (sym (mod-add-mod a 65535 r))
     ∙ turn s (a % 65535) (b % 65535) i h e
 
--- sums that are remainders already
-pub sums_small : (ws : List ℕ) (a b : ℕ) → a < 65535 → b < 65535 → sums (a % 65535) (b % 65535) ws ≡ sums a b ws
-sums_small ws a b p q = rw (mod-eq_of_lt p, mod-eq_of_lt q)
-
 -- past the end: the check
 pub ended : (s : List ℕ) (a b i : ℕ) → length s ≤ i → a + 65536 * b ≡ sums a b (words (drop i s))
 unfolding sums words
@@ -52,7 +48,3 @@ last_byte s a b {x} {r} h e p =
 -- the end of a run of words, under another name of its place
 pub ended_at : (s : List ℕ) (a b i j : ℕ) → j ≡ i → sums a b (words (drop j s)) ≡ sums a b (words (drop i s))
 ended_at s a b i j e = rw e
-
--- a run of n words is taken in
-pub taken_in : (s : List ℕ) (a b i n : ℕ) {m r : ℕ} → sums a b (words (drop (2 * i + 2 * n) s)) ≡ m → m ≡ r → sums a b (words (drop (2 * (i + n)) s)) ≡ r
-taken_in s a b i n e f = let p : 2 * (i + n) ≡ 2 * i + 2 * n = omega arith in rw p (e ∙ f)

@@ -1,12 +1,12 @@
 -- Writing over a buffer: two writes, one behind the other, are one; bytes stored one by one; writes that fit or do not. Assumes nothing.
 use mathlib.Core.Path.{◌≡◌, sym, ap, ◌∙◌}
-use mathlib.Core.Bool.{false}
+use mathlib.Core.Bool.{true, false}
 use mathlib.Core.List.{List, [], ◌∷◌, ◌++◌, append_assoc, append-nil}
-use Prim.Native.Nat.{ℕ, ◌+◌, ◌<◌, ◌≤◌}
+use Prim.Native.Nat.{ℕ, ◌+◌, ◌-◌, ◌<◌, ◌≤◌}
 use native.Mathlib.Nat.{add-zero, zero-add}
 use native.Mathlib.Numerals.{add-one}
 use native.Mathlib.Omega.{arith}
-use borrow.Author.Tests.{le-leb}
+use borrow.Author.Tests.{le-leb, leb-true}
 use lib.Dec.{leb}
 use lib.ListN.{length, get_or, take, drop, set, length-append, length-drop, drop_of_length-le}
 use lib.Seq.{drop-cons, sets-eq, paste-zero, take_at, drop_at, drop-drop, length-take-le}
@@ -106,3 +106,10 @@ unfolding over_at
 put_all d bs h =
     let none : length d ≤ 0 + length bs = omega arith in
     rw (put_fits d 0 bs (omega arith), drop_of_length-le d none) (append-nil bs)
+
+-- a part `&mut d[at..at + n]` that comes back as the bytes
+pub put_part : (d : List ℕ) (at n : ℕ) {ys bs : List ℕ} → leb (at + n) (length d) ≡ true → length bs ≡ n → ys ≡ bs
+    → take at d ++ (ys ++ drop (at + n - at) (drop at d)) ≡ put_at at bs d
+put_part d at n {ys} {bs} h l e =
+    let k : length bs ≡ at + n - at = omega arith in
+    part_back d at (at + n - at) e k ∙ sym (put_fits d at bs (omega (arith, leb-true _ _ h)))

@@ -1,7 +1,7 @@
 // Bytes: numbers in them, low byte first, writing them into a lent room, and the check (Fletcher-32).
 #![tactic(auto)]
 
-ghost use Rattle.std.specs.Prelude.{◌≡◌, ◌+◌, ◌*◌, ◌/◌, ◌%◌, ◌<◌, ◌≤◌, min, leb, length, drop, replicate};
+ghost use Rattle.std.specs.Prelude.{◌≡◌, ◌+◌, ◌*◌, ◌/◌, ◌%◌, ◌<◌, ◌≤◌, leb, length, drop, replicate};
 ghost use Rattle.octets.specs.Bytes.{byte, number2, number4, number8, bytes4, zero_from, zero_between};
 ghost use Rattle.octets.specs.Fletcher.{words, sums, fletcher};
 ghost use Rattle.octets.specs.Writes.{put_at};
@@ -9,110 +9,94 @@ ghost use Rattle.octets.specs.Writes.{put_at};
 // The check counts by this modulus.
 const MODULUS: u64 = 65535;
 
-// The two sums of the check.
+// The words of a run: so many that the two sums fit 64 bits without a remainder.
+const RUN: usize = 4096;
+
+// The two sums of the check, remainders both.
 #[derive(Clone, Copy)]
 struct Sums {
     a: u64,
     b: u64,
+    ghost small: { (a < 65535) × (b < 65535) },
 }
 
-// A byte as a wider number.
-fn wide(x: u8) -> u32
-    ensures { (result ≡ x) × (result < 256) }
-{
-    x as u32
-}
-
-// The smaller of two.
-pub fn least(a: usize, b: usize) -> usize
-    ensures { result ≡ min a b }
-{
-    if a < b { a } else { b }
+impl Sums {
+    // The check of the two sums.
+    fn join(self) -> u32
+        ensures { result ≡ self.a + 65536 * self.b }
+    {
+        (self.a + 65536 * self.b) as u32
+    }
 }
 
 // NUMBERS IN BYTES. Byte `at`; past the end stands zero.
 pub fn byte(s: &[u8], at: usize) -> u8
     ensures { result ≡ byte at s.now }
 {
-    if at < s.len() {
-        return s[at];
-    }
-    0
+    s.get(at).copied().unwrap_or(0)
 }
 
+// Kept: this and the two below it as they are, since `from_le_bytes` wants an array, and past the end stand zeros: no plainer.
 // The number of two bytes from `at` on, low byte first.
 pub fn number2(s: &[u8], at: usize) -> u32
     ensures { (result ≡ number2 at s.now) × (result < 65536) }
 {
-    if s.len() <= at {
-        return 0;
+    if at < s.len() {
+        u32::from(byte(s, at)) + 256 * u32::from(byte(s, at + 1))
+    } else {
+        0
     }
-    wide(byte(s, at)) + 256 * wide(byte(s, at + 1))
 }
 
 // The number of four bytes.
 pub fn number4(s: &[u8], at: usize) -> u32
     ensures { result ≡ number4 at s.now }
 {
-    if s.len() <= at {
-        return 0;
+    if at < s.len() {
+        number2(s, at) + 65536 * number2(s, at + 2)
+    } else {
+        0
     }
-    number2(s, at) + 65536 * number2(s, at + 2)
 }
 
 // The number of eight bytes.
 pub fn number8(s: &[u8], at: usize) -> u64
     ensures { result ≡ number8 at s.now }
 {
-    if s.len() <= at {
-        return 0;
+    if at < s.len() {
+        u64::from(number4(s, at)) + 4294967296 * u64::from(number4(s, at + 4))
+    } else {
+        0
     }
-    number4(s, at) as u64 + 4294967296 * (number4(s, at + 4) as u64)
 }
 
-// ZEROS. Whether the bytes from `at` up to the one before `end` are zero.
-pub fn zero_between(s: &[u8], at: usize, end: usize) -> bool
-    ensures { result ≡ zero_between at end s.now }
-{
-    let stop = least(end, s.len());
-    let mut i = at;
-    while i < stop {
-        if s[i] != 0 {
-            return false;
-        }
-        i += 1;
-    }
-    true
-}
-
-// Whether the bytes from `at` on are zero.
+// ZEROS. Whether the bytes from `at` on are zero.
 pub fn zero_from(s: &[u8], at: usize) -> bool
     ensures { result ≡ zero_from at s.now }
 {
-    zero_between(s, at, s.len())
+    s.iter().skip(at).all(|x| 0 == *x)
+}
+
+// Whether the bytes from `at` up to the one before `end` are zero.
+pub fn zero_between(s: &[u8], at: usize, end: usize) -> bool
+    ensures { result ≡ zero_between at end s.now }
+{
+    zero_from(&s[..end.min(s.len())], at)
 }
 
 // WRITING. Whether `count` bytes from `at` on fit a room of `size`.
 fn fits(at: usize, count: usize, size: usize) -> bool
     ensures { result ≡ leb (at + count) size }
 {
-    if size < count {
-        return false;
-    }
-    at <= size - count
+    count <= size && at <= size - count
 }
 
 // Writes bytes from `at` on; nothing where they do not fit.
 pub fn copy_at(bytes: &[u8], at: usize, room: &mut [u8])
     ensures { room.new ≡ put_at at bytes.now room.old }
 {
-    if !fits(at, bytes.len(), room.len()) {
-        return;
-    }
-    let mut i: usize = 0;
-    while i < bytes.len() {
-        room[at + i] = bytes[i];
-        i += 1;
+    if fits(at, bytes.len(), room.len()) {
+        room[at..at + bytes.len()].copy_from_slice(bytes);
     }
 }
 
@@ -120,50 +104,29 @@ pub fn copy_at(bytes: &[u8], at: usize, room: &mut [u8])
 pub fn put_zeros(count: usize, at: usize, room: &mut [u8])
     ensures { room.new ≡ put_at at (replicate count 0) room.old }
 {
-    if !fits(at, count, room.len()) {
-        return;
+    if fits(at, count, room.len()) {
+        room[at..at + count].fill(0);
     }
-    let mut i: usize = 0;
-    while i < count {
-        room[at + i] = 0;
-        i += 1;
-    }
-}
-
-// The lowest byte of a number.
-fn low_byte(x: u32) -> u8
-    ensures { result ≡ x % 256 }
-{
-    (x % 256) as u8
 }
 
 // Writes a number as four bytes.
 pub fn put4(x: u32, at: usize, room: &mut [u8])
     ensures { room.new ≡ put_at at (bytes4 x) room.old }
 {
-    let bytes = [
-        low_byte(x),
-        low_byte(x / 256),
-        low_byte(x / 65536),
-        low_byte(x / 16777216),
-    ];
-    copy_at(&bytes, at, room);
+    copy_at(&x.to_le_bytes(), at, room);
 }
 
-// THE CHECK. The sums after n words from byte `at` on: up to 4,096 words fit 64 bits, so that the remainders are taken once.
-fn add_words(bytes: &[u8], at: usize, n: usize, a: u64, b: u64) -> Sums
-    requires { (at + 2 * n ≤ length bytes.now) × (n ≤ 4096) × (a < 65535) × (b < 65535) }
-    ensures { (result.a < 65535) × (result.b < 65535) × (sums result.a result.b (words (drop (at + 2 * n) bytes.now)) ≡ sums a b (words (drop at bytes.now))) }
+// THE CHECK. The sums after a run of n words from byte `at` on: the remainders are taken once.
+fn add_words(bytes: &[u8], at: usize, n: usize, before: Sums) -> Sums
+    requires { (at + 2 * n ≤ length bytes.now) × (n ≤ 4096) }
+    ensures { sums result.a result.b (words (drop (at + 2 * n) bytes.now)) ≡ sums before.a before.b (words (drop at bytes.now)) }
 {
-    let mut low = a;
-    let mut high = b;
-    let mut i = at;
-    let mut left = n;
-    while 0 < left {
-        low += (wide(bytes[i]) + 256 * wide(bytes[i + 1])) as u64;
+    let mut low = before.a;
+    let mut high = before.b;
+    for k in 0..n {
+        let i = at + 2 * k;
+        low += u64::from(bytes[i]) + 256 * u64::from(bytes[i + 1]);
         high += low;
-        i += 2;
-        left -= 1;
     }
     Sums {
         a: low % MODULUS,
@@ -171,25 +134,18 @@ fn add_words(bytes: &[u8], at: usize, n: usize, a: u64, b: u64) -> Sums
     }
 }
 
-// The check of the two sums.
-fn join(a: u64, b: u64) -> u32
-    requires { (a < 65535) × (b < 65535) }
-    ensures { result ≡ a + 65536 * b }
-{
-    (a + 65536 * b) as u32
-}
-
 // The check from the sums after all whole words: an odd last byte is followed by a zero.
-fn end_check(bytes: &[u8], a: u64, b: u64) -> u32
-    requires { (a < 65535) × (b < 65535) }
-    ensures { result ≡ sums a b (words (drop (2 * (length bytes.now / 2)) bytes.now)) }
+fn end_check(bytes: &[u8], reached: Sums) -> u32
+    ensures { result ≡ sums reached.a reached.b (words (drop (2 * (length bytes.now / 2)) bytes.now)) }
 {
     let at = 2 * (bytes.len() / 2);
     if at < bytes.len() {
-        let low = (a + wide(bytes[at]) as u64) % MODULUS;
-        return join(low, (b + low) % MODULUS);
+        let low = (reached.a + u64::from(bytes[at])) % MODULUS;
+        let high = (reached.b + low) % MODULUS;
+        Sums { a: low, b: high }.join()
+    } else {
+        reached.join()
     }
-    join(a, b)
 }
 
 // Fletcher-32 of a string of bytes.
@@ -197,15 +153,10 @@ pub fn block_check(bytes: &[u8]) -> u32
     ensures { result ≡ fletcher bytes.now }
 {
     let total = bytes.len() / 2;
-    let mut a: u64 = 0;
-    let mut b: u64 = 0;
-    let mut i: usize = 0;
-    while i < total {
-        let n = least(4096, total - i);
-        let s = add_words(bytes, 2 * i, n, a, b);
-        a = s.a;
-        b = s.b;
-        i += n;
+    let mut reached = Sums { a: 0, b: 0 };
+    for run in 0..total.div_ceil(RUN) {
+        let i = RUN * run;
+        reached = add_words(bytes, 2 * i, (total - i).min(RUN), reached);
     }
-    end_check(bytes, a, b)
+    end_check(bytes, reached)
 }

@@ -1,5 +1,5 @@
 -- Opening a file: its records, its edge table and its intervals into lent places, so that its steps can be listed in pieces, counted or cut. Assumes nothing.
-use Rattle.std.specs.Prelude.{◌≡◌, Bool, ◌||◌, List, ◌∷◌, ◌++◌, ℕ, ◌*◌, ◌/◌, ltb, length, take}
+use Rattle.std.specs.Prelude.{◌≡◌, Bool, ◌||◌, List, ◌∷◌, ◌++◌, ℕ, ◌*◌, ◌/◌, ltb, length, take, Result, Ok, Err}
 use Rattle.std.proofs.Math.Option.{Option}
 use Rattle.lists.specs.Answer.{Answer, done, refused as denied, Check, ◌when◌, refusal, answer_of, room_after}
 use Rattle.hierarchy.specs.Hierarchy.{hierarchy_checks}
@@ -8,8 +8,9 @@ use Rattle.blocks.specs.File.{file_checks, file_records}
 use Rattle.locks.specs.Lent.{lent}
 use Rattle.runs.specs.Run.{Ran}
 use Rattle.replay.specs.Replay.{record_list, size_of, edge_table, edge_count_of, step_records, start_of, perform_all}
-use Rattle.opening.specs.declared.OpenAnswer.{OpenAnswer}
-use Rattle.opening.specs.declared.OpenAnswer.TheVariants.{Opened, Refused}
+use Rattle.refusals.specs.declared.Refusal.{Refusal}
+use Rattle.refusals.specs.Refusals.{refusal_number}
+use Rattle.opening.specs.declared.Opened.{Opened}
 
 -- a file's records, one by one
 abbrev pub file_rows : List ℕ → List (List ℕ)
@@ -59,12 +60,12 @@ open_file file records edges places =
     }
 
 -- what each case of the answer is in the paper
-abbrev pub open_meaning : OpenAnswer → Answer Opening
-open_meaning (Opened n edges records) = done (opening_of n edges records)
-open_meaning (Refused k) = denied k
+abbrev pub open_meaning : Result Opened Refusal → Answer Opening
+open_meaning (Ok o) = done (opening_of o.n o.edge_count o.total)
+open_meaning (Err k) = denied (refusal_number k)
 
 -- what `open_run` promises
-pub record Opens (r : OpenAnswer) (records edges places : List ℕ) (s : OpenResult) : Type 0 where
+pub record Opens (r : Result Opened Refusal) (records edges places : List ℕ) (s : OpenResult) : Type 0 where
   pub answer : open_meaning r ≡ s.answer
   pub records_after : records ≡ s.records
   pub edges_after : edges ≡ s.edges

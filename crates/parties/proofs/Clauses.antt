@@ -20,7 +20,8 @@ use Rattle.parties.specs.declared.Entry.{Entry}
 use Rattle.parties.specs.Parties.{stage_in}
 use Rattle.arrivals.specs.Arrivals.{listed_in}
 use Rattle.parties.specs.Sound.{lists_parties, lists_once, is_listed, lists_waiting, lock_real, intervals_real, covers_right, names_kept, names_covered, holders_apart, held_up, waiters_held_up, sound_parties}
-use Rattle.parties.specs.Inner.{entries_right}
+use Rattle.arrivals.specs.declared.Listed.{Listed}
+use Rattle.parties.specs.Inner.{entry_right, entries_right}
 
 -- the clauses one by one
 pub record Clauses (H : Hierarchy) (entries : List Entry) (queue : List ℕ) (waiting : ℕ) : Type 0 where
@@ -121,47 +122,51 @@ module _ (H : Hierarchy) (entries : List Entry) (queue : List ℕ) (waiting : �
   unsound f = bool (sound_parties H entries queue waiting) (λ e. absurd (f (clauses e))) (λ e. sym e)
 
   -- each that waits is listed
-  abbrev waiting_listed : Bool
-  waiting_listed = all_below 32 (λ party. not (is_waiting (stage_in entries party)) || is_listed queue waiting party)
+  abbrev waiting_listed : ℕ → Bool
+  waiting_listed party = not (is_waiting (stage_in entries party)) || is_listed queue waiting party
 
   -- each that is listed waits
   abbrev listed_wait : Bool
   listed_wait = all_below waiting (λ i. is_waiting (stage_in entries (listed_in queue i)))
 
-  pub entries_right_law : Clauses H entries queue waiting → entries_right H entries queue waiting ≡ true
+module _ (H : Hierarchy) (entries : List Entry) (list : Listed) where
+  pub entries_right_law : Clauses H entries list.places list.count → entries_right H entries list ≡ true
   entries_right_law c =
-      and_both waiting_listed _ (and_right listed_wait waiting_listed c.listed)
-      (all_of (λ party. of_lock (lock_fits H) (stage_in entries party)) 32
-      (λ i h. stage_fits H (stage_in entries i) (at (cover_right H) c.covers i h) (at (keeps_names H) c.names i h) (at (covers_names H) c.covered i h)))
+      all_of (λ party. entry_right H list party (stage_in entries party)) 32
+      (λ i h. and_both (waiting_listed H entries list.places list.count i) _
+      (all_at (waiting_listed H entries list.places list.count) 32 i (and_right (listed_wait H entries list.places list.count) _ c.listed) h)
+      (stage_fits H (stage_in entries i) (at (cover_right H) c.covers i h) (at (keeps_names H) c.names i h) (at (covers_names H) c.covered i h)))
     where
       at : (p : Lock → Bool) → all_below 32 (λ party. of_lock p (stage_in entries party)) ≡ true → (i : ℕ) → i < 32 → of_lock p (stage_in entries i) ≡ true
       at p e i h = all_at (λ party. of_lock p (stage_in entries party)) 32 i e h
 
-  -- TWO CLAUSES NEED NO PASS: the last two then decide
-  pub sound_held : any_below H.n (interval_wrong H) ≡ false → (lists_parties queue waiting && lists_once queue waiting) ≡ true
-      → entries_right H entries queue waiting ≡ true → (holders_apart entries && waiters_held_up entries queue waiting) ≡ sound_parties H entries queue waiting
-  sound_held right list entered =
-      bool (holders_apart entries && waiters_held_up entries queue waiting)
-      (λ both.
-      let u : waiters_held_up entries queue waiting ≡ true = and_right (holders_apart entries) (waiters_held_up entries queue waiting) both in
+  -- TWO CLAUSES NEED NO PASS: the last then decides
+  pub sound_held : any_below H.n (interval_wrong H) ≡ false → (lists_parties list.places list.count && lists_once list.places list.count) ≡ true
+      → entries_right H entries list ≡ true → holders_apart entries ≡ true → waiters_held_up entries list.places list.count ≡ sound_parties H entries list.places list.count
+  sound_held right listed entered apart =
+      bool (waiters_held_up entries list.places list.count)
+      (λ up.
+      let each : (i : ℕ) → i < 32 → entry_right H list i (stage_in entries i) ≡ true
+      = λ i h. all_at (λ party. entry_right H list party (stage_in entries party)) 32 i entered h in
       let fit : (i : ℕ) → i < 32 → Fits H (stage_in entries i)
-      = λ i h. fits_stage H (stage_in entries i) (all_at (λ party. of_lock (lock_fits H) (stage_in entries party)) 32 i (and_right waiting_listed _ entered) h) in
+      = λ i h. fits_stage H (stage_in entries i) (and_right (waiting_listed H entries list.places list.count i) _ (each i h)) in
       let real : intervals_real entries ≡ true
       = all_of (λ party. of_lock lock_real (stage_in entries party)) 32
       (λ i h. stage_covered H (stage_in entries i) right (fit i h).cover) in
-      let wait : listed_wait ≡ true
-      = all_of (λ i. is_waiting (stage_in entries (listed_in queue i))) waiting
-      (λ i h. held_waits entries (take i queue) (stage_in entries (listed_in queue i))
-      (all_at (λ k. held_up entries (take k queue) (stage_in entries (listed_in queue k))) waiting i u h)) in
-      both ∙ sym (from_clauses (record {
-        parties = and_left (lists_parties queue waiting) (lists_once queue waiting) list;
-        once = and_right (lists_parties queue waiting) (lists_once queue waiting) list;
-        listed = and_both listed_wait waiting_listed wait (and_left waiting_listed _ entered);
+      let wait : listed_wait H entries list.places list.count ≡ true
+      = all_of (λ i. is_waiting (stage_in entries (listed_in list.places i))) list.count
+      (λ i h. held_waits entries (take i list.places) (stage_in entries (listed_in list.places i))
+      (all_at (λ k. held_up entries (take k list.places) (stage_in entries (listed_in list.places k))) list.count i up h)) in
+      up ∙ sym (from_clauses H entries list.places list.count (record {
+        parties = and_left (lists_parties list.places list.count) (lists_once list.places list.count) listed;
+        once = and_right (lists_parties list.places list.count) (lists_once list.places list.count) listed;
+        listed = and_both (listed_wait H entries list.places list.count) _ wait
+            (all_of (waiting_listed H entries list.places list.count) 32 (λ i h. and_left (waiting_listed H entries list.places list.count i) _ (each i h)));
         real = real;
         covers = all_of (λ party. of_lock (cover_right H) (stage_in entries party)) 32 (λ i h. (fit i h).cover);
         names = all_of (λ party. of_lock (keeps_names H) (stage_in entries party)) 32 (λ i h. (fit i h).names);
         covered = all_of (λ party. of_lock (covers_names H) (stage_in entries party)) 32 (λ i h. (fit i h).covered);
-        apart = and_left (holders_apart entries) (waiters_held_up entries queue waiting) both;
-        held = u;
+        apart = apart;
+        held = up;
       })))
-      (λ both. both ∙ unsound (λ c. not_both _ (and_both (holders_apart entries) (waiters_held_up entries queue waiting) c.apart c.held) both))
+      (λ up. up ∙ unsound H entries list.places list.count (λ c. not_both _ c.held up))

@@ -1,4 +1,4 @@
 -- What the proofs of several functions, and of the layers above, use.
 pub mod Stages
-pub mod Rows
+pub mod Holders
 pub mod Clauses

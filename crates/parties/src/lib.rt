@@ -1,21 +1,18 @@
 // Parties: their entries, who is free, and the test of a sound desk.
 #![tactic(auto)]
 
-ghost use Rattle.std.specs.Prelude.{◌≡◌, true, false, ◌&&◌, ◌||◌, not, ◌≤◌, ◌<◌, length};
+ghost use Rattle.std.specs.Prelude.{◌≡◌, [], ◌∷◌, ◌++◌, true, false, ◌&&◌, ◌||◌, not, ◌≤◌, ◌<◌, ◌+◌};
 ghost use Rattle.lists.specs.Lists.{any_below};
-ghost use Rattle.locks.specs.declared.Lock as L;
-ghost use Rattle.locks.specs.Locks.{lock_numbered};
-ghost use Rattle.locks.specs.Stages.{is_waiting};
-ghost use Rattle.locks.specs.Lent.{spanned, interval_wrong};
-ghost use Rattle.parties.specs.Parties.{stage_in, meets_holder, is_free, place_of, seated_at, someone_in};
-ghost use Rattle.parties.specs.Sound.{is_listed, lists_parties, lists_once, holders_apart, waiters_held_up, sound_parties};
-ghost use Rattle.parties.specs.Inner.{row_of, put_row, meets_row, rows_apart, with_hold, after_hold, with_call, held_by, HoldsOf, Gathered};
+ghost use Rattle.locks.specs.Lent.{lent_in, interval_wrong};
+ghost use Rattle.parties.specs.Parties.{stage_in, is_free, someone_in};
+ghost use Rattle.parties.specs.Inner.{locks_in, meets, entry_right, HoldsOf, Gathered};
+ghost use Rattle.parties.specs.Sound.{lists_parties, lists_once, holders_apart, waiters_held_up, sound_parties};
 
 use arrivals::{Listed, PARTIES};
-use locks::{Lock, Stage};
+use locks::{Lent, Lock, Mode, Stage};
 
-// Numbers of 32 locks, three for each.
-const ROWS: usize = 96;
+// Places for the locks of all holders and, behind them, of all waiters.
+const STANDING: usize = 2 * PARTIES;
 
 // The entry of a party.
 #[derive(Clone, Copy)]
@@ -23,312 +20,147 @@ pub struct Entry {
     pub stage: Stage,
 }
 
-// Locks as numbers, three to a row (mode, low, high), and the count of the rows.
+// Locks that stand at the desk, and their count: holds, and calls behind them.
+// Kept: an array with a count beside it, since memory is fixed and there is no heap.
 #[derive(Clone, Copy)]
-struct Holds {
-    rows: [u16; ROWS],
+struct Standing {
+    locks: [Lock; STANDING],
     count: usize,
 }
 
-// The place of a party's entry; that of party 0 for a party over 31.
-pub fn place(party: usize) -> usize
-    ensures { (result < 32) × (result ≡ place_of party) }
-{
-    if party < PARTIES {
-        return party;
+impl Standing {
+    // No lock stands.
+    fn none() -> Standing
+        ensures { result.count ≡ 0 }
+    {
+        let filler = Lock {
+            mode: Mode::Reading,
+            cover: 0,
+            low: 0,
+            high: 0,
+            names: naming::none(),
+        };
+        Standing {
+            locks: [filler; STANDING],
+            count: 0,
+        }
     }
-    0
-}
 
-// The stage of a party by what stands at its place; a party over 31 counts as out.
-pub fn seated(party: usize, s: Stage) -> Stage
-    ensures { result ≡ seated_at party s }
-{
-    if party < PARTIES {
-        return s;
+    // Whether a lock conflicts with one of those that stand.
+    fn meets(&self, l: Lock) -> bool
+        requires { self.now.count ≤ 64 }
+        ensures { result ≡ meets (locks_in self.now) l }
+    {
+        self.locks[..self.count]
+            .iter()
+            .any(|here| locks::conflict(*here, l))
     }
-    Stage::Out
+
+    // One lock more stands.
+    fn push(&mut self, l: Lock)
+        requires { self.old.count < 64 }
+        ensures { (self.new.count ≡ self.old.count + 1) × (locks_in self.new ≡ locks_in self.old ++ (l ∷ [])) }
+    {
+        self.locks[self.count] = l;
+        self.count += 1;
+    }
 }
 
 // The stage of a party; a party over 31 counts as out.
-pub fn stage(entries: [Entry; PARTIES], party: usize) -> Stage
-    ensures { result ≡ stage_in entries party }
+pub fn stage(entries: &[Entry], party: usize) -> Stage
+    ensures { result ≡ stage_in entries.now party }
 {
-    if party < PARTIES {
-        let e = entries[party];
-        return e.stage;
-    }
-    Stage::Out
+    entries.get(party).map_or(Stage::Out, |entry| entry.stage)
 }
 
 // Whether some party holds or waits.
 pub fn someone_in(entries: [Entry; PARTIES]) -> bool
     ensures { result ≡ someone_in entries }
 {
-    let mut i = 0;
-    while i < PARTIES {
-        let e = entries[i];
-        let s = e.stage;
-        if !locks::is_out(s) {
-            return true;
-        }
-        i += 1;
-    }
-    false
+    entries.iter().any(|entry| !locks::is_out(entry.stage))
 }
 
 // Whether a lock conflicts with no holder and no waiter.
 pub fn is_free(entries: [Entry; PARTIES], l: Lock) -> bool
     ensures { result ≡ is_free entries l }
 {
-    let mut i = 0;
-    while i < PARTIES {
-        let e = entries[i];
-        let s = e.stage;
-        if locks::stands_against(l, s) {
-            return false;
-        }
-        i += 1;
-    }
-    true
+    !entries
+        .iter()
+        .any(|entry| locks::stands_against(l, entry.stage))
 }
 
 // Whether an arrival list is within its places and lists only parties from 0 to 31, each at most once.
-fn lists_right(queue: &[u8], waiting: usize) -> bool
-    ensures { result ≡ lists_parties queue.now waiting && lists_once queue.now waiting }
+fn lists_right(list: &Listed) -> bool
+    ensures { result ≡ lists_parties list.now.places list.now.count && lists_once list.now.places list.now.count }
 {
-    if PARTIES < waiting {
-        return false;
-    }
-    if !arrivals::all_parties(queue, waiting) {
-        return false;
-    }
-    arrivals::lists_once(queue, waiting)
+    list.count <= PARTIES
+        && arrivals::all_parties(&list.places, list.count)
+        && arrivals::lists_once(&list.places, list.count)
 }
 
-// Whether a party at this stage is listed if it waits.
-fn listed_if_waiting(queue: &[u8], waiting: usize, party: usize, s: Stage) -> bool
-    ensures { result ≡ not (is_waiting s) || is_listed queue.now waiting party }
+// Whether a party at this stage is listed if it waits, and what it holds or waits for has a right cover and right names.
+fn entry_right(tables: &Lent<'_>, list: &Listed, party: usize, s: Stage) -> bool
+    ensures { result ≡ entry_right (lent_in tables.now) list.now party s }
 {
-    if !locks::is_waiting(s) {
-        return true;
-    }
-    arrivals::is_listed(queue, waiting, party)
+    (!locks::is_waiting(s) || arrivals::is_listed(&list.places, list.count, party))
+        && locks::stage_right(tables, s)
 }
 
-// The lock of a row's numbers.
-fn row_lock(m: u16, low: u16, high: u16) -> Lock
-    ensures { result ≡ lock_numbered m low high }
+// The holds of the holders, from one pass over the entries; none where one that waits is not listed, a cover or names are not right, or two holds conflict.
+fn gather(tables: &Lent<'_>, entries: &[Entry; PARTIES], list: &Listed) -> Option<Standing>
+    ensures { Gathered (lent_in tables.now) entries.now list.now result }
 {
-    let mode = locks::mode_when(m == 1, m == 2);
-    let names = naming::none();
-    Lock {
-        mode,
-        cover: 0,
-        low,
-        high,
-        names,
-    }
-}
-
-// The lock of a row.
-fn row(rows: &[u16; ROWS], k: usize) -> Lock
-    requires { k < 32 }
-    ensures { result ≡ row_of rows.now k }
-{
-    let m = rows[3 * k];
-    let low = rows[3 * k + 1];
-    let high = rows[3 * k + 2];
-    row_lock(m, low, high)
-}
-
-// Puts a lock into a row.
-fn put_row(rows: &mut [u16; ROWS], k: usize, l: Lock)
-    requires { k < 32 }
-    ensures { rows.new ≡ put_row rows.old k l }
-{
-    let m = l.mode;
-    rows[3 * k] = locks::mode_number(m);
-    rows[3 * k + 1] = l.low;
-    rows[3 * k + 2] = l.high;
-}
-
-// Whether a lock conflicts with one in the first rows.
-fn meets_row(rows: &[u16; ROWS], count: usize, l: Lock) -> bool
-    requires { count ≤ 32 }
-    ensures { result ≡ meets_row rows.now count l }
-{
-    let mut i = 0;
-    while i < count {
-        let here = row(rows, i);
-        if locks::conflict(here, l) {
-            return true;
+    let mut standing = Standing::none();
+    for (party, entry) in entries.iter().enumerate() {
+        if !entry_right(tables, list, party, entry.stage) {
+            return None;
         }
-        i += 1;
-    }
-    false
-}
-
-// Whether no two locks in the first rows conflict.
-fn rows_apart(rows: &[u16; ROWS], count: usize) -> bool
-    requires { count ≤ 32 }
-    ensures { result ≡ rows_apart rows.now count }
-{
-    let mut i = 0;
-    while i < count {
-        let here = row(rows, i);
-        if meets_row(rows, i, here) {
-            return false;
-        }
-        i += 1;
-    }
-    true
-}
-
-// Puts what a party at this stage holds into the next row, and answers the count of the rows then.
-fn put_hold(rows: &mut [u16; ROWS], k: usize, s: Stage) -> usize
-    requires { k < 32 }
-    ensures { (result ≡ after_hold k s) × (rows.new ≡ with_hold rows.old k s) }
-{
-    match s {
-        Stage::Out => k,
-        Stage::Waiting(_) => k,
-        Stage::Holding(l) => {
-            put_row(rows, k, l);
-            k + 1
+        if let Stage::Holding(l) = entry.stage {
+            if standing.meets(l) {
+                return None;
+            }
+            standing.push(l);
         }
     }
-}
-
-// Puts what a party at this stage waits for into a row.
-fn put_call(rows: &mut [u16; ROWS], k: usize, s: Stage)
-    requires { k < 32 }
-    ensures { rows.new ≡ with_call rows.old k s }
-{
-    match s {
-        Stage::Out => {}
-        Stage::Waiting(l) => put_row(rows, k, l),
-        Stage::Holding(_) => {}
-    }
-}
-
-// One pass over the entries: each that waits must be listed, and all covers and names must be right. The holds of the holders are gathered in rows;
-// a count of 33 says that an entry is not right.
-fn gather(
-    n: usize,
-    intervals: &[u16],
-    entries: [Entry; PARTIES],
-    queue: &[u8],
-    waiting: usize,
-) -> Holds
-    ensures { Gathered (spanned n intervals.now) entries queue.now waiting result }
-{
-    let mut rows = [0u16; ROWS];
-    let mut count = 0;
-    let mut i = 0;
-    while i < PARTIES {
-        let e = entries[i];
-        let s = e.stage;
-        if !listed_if_waiting(queue, waiting, i, s) {
-            return Holds { rows, count: 33 };
-        }
-        if !locks::stage_right(n, intervals, s) {
-            return Holds { rows, count: 33 };
-        }
-        count = put_hold(&mut rows, count, s);
-        i += 1;
-    }
-    Holds { rows, count }
-}
-
-// Whether a lock conflicts with one of the holds or with one of the calls before it.
-fn meets_either(holds: &[u16; ROWS], h: usize, calls: &[u16; ROWS], k: usize, l: Lock) -> bool
-    requires { (h ≤ 32) × (k ≤ 32) }
-    ensures { result ≡ meets_row holds.now h l || meets_row calls.now k l }
-{
-    if meets_row(holds, h, l) {
-        return true;
-    }
-    meets_row(calls, k, l)
-}
-
-// Whether a party at this stage waits, and conflicts with one of the holds or with one of the calls before it.
-fn held_up(holds: &[u16; ROWS], h: usize, calls: &[u16; ROWS], k: usize, s: Stage) -> bool
-    requires { (h ≤ 32) × (k ≤ 32) }
-    ensures { result ≡ held_by holds.now h calls.now k s }
-{
-    match s {
-        Stage::Out => false,
-        Stage::Waiting(l) => meets_either(holds, h, calls, k, l),
-        Stage::Holding(_) => false,
-    }
+    Some(standing)
 }
 
 // Whether each waiter conflicts with a holder or an earlier waiter; the holds of the holders are given.
-fn waiters_held_up(
-    entries: [Entry; PARTIES],
-    queue: &[u8],
-    waiting: usize,
-    holds: &[u16; ROWS],
-    h: usize,
-) -> bool
-    requires { (waiting ≤ length queue.now) × (waiting ≤ 32) × (h ≤ 32) × ((l : L.Lock) → meets_holder entries l ≡ meets_row holds.now h l) }
-    ensures { result ≡ waiters_held_up entries queue.now waiting }
+fn waiters_held_up(entries: &[Entry; PARTIES], list: &Listed, holds: Standing) -> bool
+    requires { (list.now.count ≤ 32) × HoldsOf entries.now holds }
+    ensures { result ≡ waiters_held_up entries.now list.now.places list.now.count }
 {
-    let mut calls = [0u16; ROWS];
-    let mut i = 0;
-    while i < waiting {
-        let party = arrivals::party_at(queue, i);
-        let at = place(party);
-        let e = entries[at];
-        let here = e.stage;
-        let s = seated(party, here);
-        if !held_up(holds, h, &calls, i, s) {
+    let mut standing = holds;
+    for i in 0..list.count {
+        let Stage::Waiting(l) = stage(entries, arrivals::party_at(&list.places, i)) else {
+            return false;
+        };
+        if !standing.meets(l) {
             return false;
         }
-        put_call(&mut calls, i, s);
-        i += 1;
+        standing.push(l);
     }
     true
-}
-
-// Whether no two of the holds conflict, and each waiter conflicts with a holder or an earlier waiter; the holds of the holders are given.
-fn held_right(entries: [Entry; PARTIES], queue: &[u8], waiting: usize, holds: Holds) -> bool
-    requires { (waiting ≤ length queue.now) × (waiting ≤ 32) × HoldsOf entries holds }
-    ensures { result ≡ holders_apart entries && waiters_held_up entries queue.now waiting }
-{
-    let rows = holds.rows;
-    let count = holds.count;
-    if !rows_apart(&rows, count) {
-        return false;
-    }
-    waiters_held_up(entries, queue, waiting, &rows, count)
 }
 
 // Whether the desk of these entries and this arrival list is sound, over intervals that are not wrong. A right cover has a real interval then,
 // and who is held up waits: these two clauses need no pass.
-fn is_sound(n: usize, intervals: &[u16], entries: [Entry; PARTIES], list: Listed) -> bool
-    requires { any_below n (interval_wrong (spanned n intervals.now)) ≡ false }
-    ensures { result ≡ sound_parties (spanned n intervals.now) entries list.places list.count }
+fn is_sound(tables: &Lent<'_>, entries: &[Entry; PARTIES], list: &Listed) -> bool
+    requires { any_below tables.now.n (interval_wrong (lent_in tables.now)) ≡ false }
+    ensures { result ≡ sound_parties (lent_in tables.now) entries.now list.now.places list.now.count }
 {
-    let queue = list.places;
-    let waiting = list.count;
-    if !lists_right(&queue, waiting) {
+    if !lists_right(list) {
         return false;
     }
-    let holds = gather(n, intervals, entries, &queue, waiting);
-    if PARTIES < holds.count {
-        return false;
+    match gather(tables, entries, list) {
+        Some(holds) => waiters_held_up(entries, list, holds),
+        None => false,
     }
-    held_right(entries, &queue, waiting, holds)
 }
 
 // Refusal 10: whether an interval of the lent table is wrong, or the desk of these entries and this arrival list is not sound.
-pub fn state_wrong(n: usize, intervals: &[u16], entries: [Entry; PARTIES], list: Listed) -> bool
-    ensures { result ≡ any_below n (interval_wrong (spanned n intervals.now)) || not (sound_parties (spanned n intervals.now) entries list.places list.count) }
+pub fn state_wrong(tables: &Lent<'_>, entries: [Entry; PARTIES], list: Listed) -> bool
+    ensures { result ≡ any_below tables.now.n (interval_wrong (lent_in tables.now)) || not (sound_parties (lent_in tables.now) entries list.places list.count) }
 {
-    if locks::intervals_wrong(n, intervals) {
-        return true;
-    }
-    !is_sound(n, intervals, entries, list)
+    locks::intervals_wrong(tables) || !is_sound(tables, &entries, &list)
 }

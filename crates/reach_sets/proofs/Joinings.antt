@@ -1,11 +1,12 @@
 -- Passes over the edges in which a parent's set takes its child's in: what they keep, and where they end. Assumes nothing.
 use mathlib.Core.Path.{◌≡◌, refl, sym, ap, ap₂, ◌∙◌, subst}
 use mathlib.Core.List.{List}
-use mathlib.Core.Bool.{Bool, true, false, ◌||◌, or-true}
+use mathlib.Core.Bool.{Bool, true, false, ◌&&◌, ◌||◌, or-true}
 use Prim.Native.Nat.{ℕ, ◌+◌, ◌-◌, ◌*◌, ◌/◌, ◌^◌, ◌≤◌, ◌<◌}
 use native.Mathlib.Omega.{arith}
 use lib.Dec.{eqb}
-use lib.Bits.{or_lt}
+use lib.Bits.{bit_or, or_lt}
+use lib.Pointwise.{pointwise}
 use lib.ListN.{length, get_or}
 use lib.Seq.{ext_get_or}
 use borrow.Author.Tests.{eqb-true, eqb-false}
@@ -20,8 +21,8 @@ use Rattle.hierarchy.proofs.EdgeLoops.{edges_all, edge_here, turn}
 use Rattle.hierarchy.proofs.Reaches.{onto}
 use Rattle.reach_sets.specs.declared.NodeSet.{NodeSet}
 use Rattle.reach_sets.specs.Sets.{word_at, has, joined, set_at, set_to}
-use Rattle.reach_sets.specs.Inner.{same_words, room, Joins, Has, From, Kept, Settled}
-use Rattle.reach_sets.proofs.Nodes.{four, same_words_law, has_joined}
+use Rattle.reach_sets.specs.Inner.{room, Joins, Has, From, Kept, Settled}
+use Rattle.reach_sets.proofs.Nodes.{four, same_words, same_words_law, has_joined}
 use Rattle.reach_sets.proofs.Stores.{put_is, put_same, put_other, put_long, or_more, room_falls}
 
 -- ---- one edge
@@ -59,17 +60,34 @@ module _ (p c : ℕ) (t : List ℕ) where
           rw (put_is t p grown l) (room_falls t p grown h small fits more e),
         )
 
+-- four tests, one behind the other or grouped from the front
+regroup : (p q r s : Bool) → (p && (q && (r && (s && true)))) ≡ (((p && q) && r) && s)
+regroup false q r s = refl
+regroup true false r s = refl
+regroup true true false s = refl
+regroup true true true false = refl
+regroup true true true true = refl
+
 -- the same of what the code has read and joined
 module _ (p c : ℕ) (t : List ℕ) (a b s : NodeSet) (ea : a ≡ set_at t p) (eb : b ≡ set_at t c) (es : s ≡ joined a b) where
   whole : s ≡ joined (set_at t p) (set_at t c)
   whole = es ∙ ap₂ joined ea eb
 
-  pub read_same : same_words a s ≡ true → Joins p c t t
-  read_same e = joined_same p c t (sym (ap₂ same_words ea whole) ∙ e)
+  -- as `==` answers of their words
+  told : {v : Bool} → pointwise eqb a.words s.words ≡ v → same_words (set_at t p) (joined (set_at t p) (set_at t c)) ≡ v
+  told e =
+      sym
+      (regroup (eqb (get_or t (4 * p) 0) (bit_or (get_or t (4 * p) 0) (get_or t (4 * c) 0))) (eqb (get_or t (4 * p + 1) 0) (bit_or (get_or t (4 * p + 1) 0) (get_or t (4 * c + 1) 0)))
+      (eqb (get_or t (4 * p + 2) 0) (bit_or (get_or t (4 * p + 2) 0) (get_or t (4 * c + 2) 0))) (eqb (get_or t (4 * p + 3) 0) (bit_or (get_or t (4 * p + 3) 0) (get_or t (4 * c + 3) 0))))
+      ∙ sym (ap₂ (λ (x y : NodeSet). pointwise eqb x.words y.words) ea whole)
+      ∙ e
 
-  pub read_more : 4 * p + 3 < length t → Below (2 ^ 64) t → same_words a s ≡ false → (u : List ℕ) → u ≡ set_to t p s → Joins p c t u × (room u < room t)
+  pub read_same : pointwise eqb a.words s.words ≡ true → Joins p c t t
+  read_same e = joined_same p c t (told e)
+
+  pub read_more : 4 * p + 3 < length t → Below (2 ^ 64) t → pointwise eqb a.words s.words ≡ false → (u : List ℕ) → u ≡ set_to t p s → Joins p c t u × (room u < room t)
   read_more h small e u is =
-      subst (λ (v : List ℕ). Joins p c t v × (room v < room t)) (sym (is ∙ ap (set_to t p) whole)) (joined_more p c t h small (sym (ap₂ same_words ea whole) ∙ e))
+      subst (λ (v : List ℕ). Joins p c t v × (room v < room t)) (sym (is ∙ ap (set_to t p) whole)) (joined_more p c t h small (told e))
 
 -- ---- what passes keep
 

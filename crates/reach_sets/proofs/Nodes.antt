@@ -14,7 +14,7 @@ use Rattle.lists.proofs.Bounded.{any_stop, none_of}
 use Rattle.lists.proofs.Marks.{zero_at}
 use Rattle.reach_sets.specs.declared.NodeSet.{NodeSet}
 use Rattle.reach_sets.specs.Sets.{bit, word_at, has, no_nodes, joined, meets}
-use Rattle.reach_sets.specs.Inner.{single_of, same_words}
+use Rattle.reach_sets.specs.Inner.{single_of}
 use Rattle.reach_sets.proofs.Bits.{bit_two, either_digit, both_digits, or_bit, and_bit, single_same, single_other, nought_bit, same_bits, some_bit}
 
 -- what holds of the words 0 to 3 holds of each below 4
@@ -25,7 +25,11 @@ four P a b c d (suc (suc zero)) h = c
 four P a b c d (suc (suc (suc zero))) h = d
 four P a b c d (suc (suc (suc (suc k)))) h = absurd (omega arith)
 
--- two sets with the same four words, word by word
+-- two sets have the same four words
+abbrev pub same_words : NodeSet → NodeSet → Bool
+same_words a b = eqb (word_at a 0) (word_at b 0) && eqb (word_at a 1) (word_at b 1) && eqb (word_at a 2) (word_at b 2) && eqb (word_at a 3) (word_at b 3)
+
+-- word by word
 pub same_words_law : (a b : NodeSet) → same_words a b ≡ true → (k : ℕ) → k < 4 → word_at a k ≡ word_at b k
 same_words_law a b e =
     let e0 : Bool = eqb (word_at a 0) (word_at b 0) in

@@ -1,24 +1,24 @@
 -- The plain engine: what it leaves after each of its ends. Assumes nothing.
 use mathlib.Core.Path.{◌≡◌, refl, sym, ap, ◌∙◌}
 use mathlib.Core.List.{List}
-use mathlib.Core.Bool.{Bool, true, false, not, ◌&&◌, ◌||◌}
-use mathlib.Core.Option.{Option, none, some}
-use Prim.Native.Nat.{ℕ, ◌*◌, ◌/◌, ◌≤◌, ◌<◌}
+use mathlib.Core.Bool.{true, false, ◌||◌}
+use mathlib.Core.Option.{Option}
+use Prim.Native.Nat.{ℕ, ◌*◌, ◌/◌, ◌≤◌}
 use native.Mathlib.Omega.{arith}
-use lib.Dec.{leb, ltb}
+use lib.Dec.{ltb}
 use lib.ListN.{length, drop, replicate}
-use borrow.Author.Tests.{lt-leb, lt-ltb, le-ltb, ltb-false}
+use borrow.Author.Tests.{le-ltb, ltb-false}
 use Rattle.lists.specs.Lists.{over}
-use Rattle.lists.specs.Answer.{Answer, done, refused, ◌when◌, refusal, number_of, answer_of, room_after}
-use Rattle.lists.proofs.Bools.{not_both, or_left, or_right}
+use Rattle.lists.specs.Answer.{Answer, done, refused, ◌when◌, refusal, answer_of, room_after}
+use Rattle.lists.proofs.Bools.{or_left, or_right}
 use Rattle.lists.proofs.Refusals.{refused_here, refused_later}
 use Rattle.lists.proofs.Parts.{zeroed}
-use Rattle.hierarchy.specs.Hierarchy.{edges_of, hierarchy_checks, size_wrong, Legal}
+use Rattle.hierarchy.specs.Hierarchy.{edges_of, hierarchy_checks, Legal}
 use Rattle.intervals.specs.Numbering.{numbering}
 use Rattle.intervals.specs.Intervals.{interval_table}
 use Rattle.intervals.specs.Build.{build_step, numbers_short, numbers_step}
 use Rattle.hierarchy.proofs.Legals.{promised}
-use Rattle.intervals.proofs.Builds.{room_short, room_refused, room_done, room_alone}
+use Rattle.intervals.proofs.Builds.{legal_of, room_short, room_done, room_alone}
 use Rattle.intervals.proofs.Extremes.{numbering_long}
 use Rattle.reach_sets.specs.Sets.{set_table}
 use Rattle.reach_sets.specs.Plain.{sets_short, sets_step, plain_short, plain_step}
@@ -27,12 +27,6 @@ use Rattle.reach_sets.proofs.Fills.{table_long}
 module _ (n : ℕ) (edges : List ℕ) (count : ℕ) where
   -- ---- the sets
   module _ (words : List ℕ) where
-    pub few_words : length words / 4 < n → sets_short n edges count words ≡ true
-    few_words h = rw (lt-ltb (length words) (4 * n) (omega arith)) refl
-
-    pub few_edges : n ≤ length words / 4 → length edges / 2 < count → sets_short n edges count words ≡ true
-    few_edges g h = rw (le-ltb (length words) (4 * n) (omega arith), lt-ltb (length edges) (2 * count) (omega arith)) refl
-
     pub many_enough : n ≤ length words / 4 → count ≤ length edges / 2 → sets_short n edges count words ≡ false
     many_enough g h = rw (le-ltb (length words) (4 * n) (omega arith), le-ltb (length edges) (2 * count) (omega arith)) refl
 
@@ -45,10 +39,6 @@ module _ (n : ℕ) (edges : List ℕ) (count : ℕ) where
     sets_short_law = room_short n edges count (sets_short n edges count words) (set_table n (edges_of edges count)) words
 
     module _ (h : sets_short n edges count words ≡ false) where
-      pub sets_refused : (k : ℕ) → k ≡ number_of (refusal (hierarchy_checks n edges count)) → (k ≡ 0 → ⊥) → SetsLeft (refused k) words
-      unfolding sets_step
-      sets_refused = room_refused n edges count (sets_short n edges count words) (set_table n (edges_of edges count)) words h
-
       pub sets_done : Legal n edges count → (words' : List ℕ) → words' ≡ over (set_table n (edges_of edges count)) words → SetsLeft (done tt) words'
       unfolding sets_step
       sets_done = room_done n edges count (sets_short n edges count words) (set_table n (edges_of edges count)) words h
@@ -61,15 +51,6 @@ module _ (n : ℕ) (edges : List ℕ) (count : ℕ) where
 
   -- ---- building
   module _ (places words : List ℕ) where
-    pub short_places : length places / 2 < n → plain_short n edges count places words ≡ true
-    short_places h = rw (lt-ltb (length places) (2 * n) (omega arith)) refl
-
-    pub short_edges : n ≤ length places / 2 → length edges / 2 < count → plain_short n edges count places words ≡ true
-    short_edges g h = rw (le-ltb (length places) (2 * n) (omega arith), lt-ltb (length edges) (2 * count) (omega arith)) refl
-
-    pub short_words : n ≤ length places / 2 → count ≤ length edges / 2 → length words < 1024 → plain_short n edges count places words ≡ true
-    short_words g f h = rw (le-ltb (length places) (2 * n) (omega arith), le-ltb (length edges) (2 * count) (omega arith), lt-ltb (length words) 1024 h) refl
-
     pub long_enough : n ≤ length places / 2 → count ≤ length edges / 2 → 1024 ≤ length words → plain_short n edges count places words ≡ false
     long_enough g f h = rw (le-ltb (length places) (2 * n) (omega arith), le-ltb (length edges) (2 * count) (omega arith), le-ltb (length words) 1024 h) refl
 
@@ -112,21 +93,6 @@ module _ (n : ℕ) (edges : List ℕ) (count : ℕ) (places : List ℕ) where
   abbrev table : List ℕ
   table = interval_table n (edges_of edges count)
 
-  -- a refusal changes nothing
-  kept_refused : (k : ℕ) (o : Option ℕ) → ◌≡◌ {A = Answer (Unit {0})} (refused k) (answer_of o tt) → places ≡ room_after o table places
-  kept_refused k none e = not_both true refl cc
-  kept_refused k (some j) e = refl
-
-  -- over 256 nodes
-  pub too_large : 256 < n → ◌≡◌ {A = Answer (Unit {0})} (refused 5) (answer_of judged tt) × (places ≡ room_after judged table places)
-  too_large h =
-      let e = refused_here (5 when size_wrong n) _ (ap (λ (b : Bool). not (leb 1 n && b)) (lt-leb n 256 h) ∙ by (leb 1 n)) in
-      (ap (λ (o : Option ℕ). answer_of o tt) (sym e), ap (λ (o : Option ℕ). room_after o table places) (sym e))
-    where
-      by : (b : Bool) → not (b && false) ≡ true
-      by true = refl
-      by false = refl
-
   module _ (numbers : List ℕ) (long : length numbers ≡ n) (enough : 2 * count ≤ length edges) where
     lent_enough : numbers_short n edges count numbers ≡ false
     lent_enough = rw (le-ltb (length numbers) n (omega arith), le-ltb (length edges) (2 * count) enough) refl
@@ -135,17 +101,9 @@ module _ (n : ℕ) (edges : List ℕ) (count : ℕ) (places : List ℕ) where
     unfolding numbers_step
     answers = ap (λ (o : Option ℕ). answer_of o tt) (refused_later (1 when numbers_short n edges count numbers) (hierarchy_checks n edges count) lent_enough)
 
-    -- refused
-    pub numbers_refused : (k : ℕ) → refused k ≡ (numbers_step n edges count numbers).answer → ◌≡◌ {A = Answer (Unit {0})} (refused k) (answer_of judged tt) × (places ≡ room_after judged table places)
-    numbers_refused k e = (e ∙ answers, kept_refused k judged (e ∙ answers))
-
-    -- or legal, and numbered
+    -- legal, and numbered
     pub numbers_legal : done tt ≡ (numbers_step n edges count numbers).answer → Legal n edges count
-    numbers_legal e = by judged (e ∙ answers)
-      where
-        by : (o : Option ℕ) → ◌≡◌ {A = Answer (Unit {0})} (done tt) (answer_of o tt) → o ≡ none
-        by none q = refl
-        by (some k) q = not_both true refl cc
+    numbers_legal e = legal_of n edges count (e ∙ answers)
 
     pub numbers_are : Legal n edges count → (numbers_step n edges count numbers).places ≡ numbering n (edges_of edges count)
     unfolding numbers_step

@@ -7,6 +7,7 @@ use native.Mathlib.Omega.{arith}
 use lib.Dec.{eqb}
 use lib.ListN.{length, get_or, set, drop, length-set, drop_of_length-le}
 use borrow.Author.Tests.{eqb-true, eqb-false, ne_eqb}
+use Rattle.std.specs.Ordering.{ord_max, nat_cmp}
 use Rattle.lists.specs.Lists.{kept_if, fold_from, least, greatest}
 use Rattle.lists.proofs.Bools.{bool}
 use Rattle.lists.proofs.Loops.{drop_step}
@@ -17,8 +18,16 @@ use Rattle.intervals.specs.Intervals.{numbers_among, low_of, high_of, intervals_
 use Rattle.intervals.proofs.Doubles.{two_set}
 use Rattle.reach_sets.specs.declared.NodeSet.{NodeSet}
 use Rattle.reach_sets.specs.Sets.{has, set_at}
-use Rattle.reach_sets.specs.Inner.{counted_if, less_of, Spannable}
+use Rattle.reach_sets.specs.Inner.{less_of, Spannable}
 use Rattle.reach_sets.proofs.Fills.{has_flagged}
+
+-- a number that counts, or 0
+abbrev counted_if : Bool → ℕ → ℕ
+counted_if b k = cond b k 0
+
+-- the greater of two numbers, as std says it
+pub max_law : (x y : ℕ) → ord_max nat_cmp x y ≡ max x y
+max_law x y = grind arith
 
 -- the numbers of flagged nodes, one after the other
 unfoldable pub taken : (ℕ → ℕ → ℕ) → ℕ → List ℕ → List ℕ → ℕ
@@ -102,13 +111,22 @@ pub spanning_start : (numbers flags : List ℕ) → Spanning numbers flags 0 0 0
 spanning_start numbers flags = record { lower = refl; higher = refl }
 
 module _ (s : NodeSet) (numbers flags : List ℕ) (f : Flags s numbers flags) (y low high : ℕ) (p : Spanning numbers flags y low high) where
-  pub spanning_more : y < length numbers → (b : Bool) → b ≡ has s y → Spanning numbers flags (y + 1) (less_of low (counted_if b (get_or numbers y 0))) (max high (counted_if b (get_or numbers y 0)))
+  spanning_next : y < length numbers → (b : Bool) → b ≡ has s y → Spanning numbers flags (y + 1) (less_of low (counted_if b (get_or numbers y 0))) (max high (counted_if b (get_or numbers y 0)))
   unfolding taken
-  spanning_more h b e =
+  spanning_next h b e =
       let q : b ≡ not (eqb (get_or flags y 0) 0) = e ∙ f.each y (omega (arith, f.long)) in
       let a = drop_step flags y 0 refl (omega (arith, f.long)) in
       let d = drop_step numbers y 0 refl h in
       record { lower = rw q (rw (a, d) at p.lower); higher = rw q (rw (a, d) at p.higher) }
+
+  -- a node of the set, and one that is not
+  pub spanning_more : y < length numbers → true ≡ has s y → Spanning numbers flags (y + 1) (less_of low (get_or numbers y 0)) (max high (get_or numbers y 0))
+  spanning_more h e = spanning_next h true e
+
+  pub spanning_past : y < length numbers → false ≡ has s y → Spanning numbers flags (y + 1) low high
+  spanning_past h e =
+      let m : max high 0 ≡ high = omega arith in
+      rw (less_none low, m) at (spanning_next h false e)
 
   pub spanning_end : length numbers ≤ y → ◌≡◌ {A = Interval} (record { low = low; high = high }) (record { low = least (numbers_among flags numbers); high = greatest (numbers_among flags numbers) })
   unfolding taken

@@ -1,19 +1,19 @@
 -- Tables of sets: what stands in one after a node's set was put into it, and how much room is left. Assumes nothing.
 use mathlib.Core.Path.{◌≡◌, refl, sym, ap, ◌∙◌}
-use mathlib.Core.List.{List, [], ◌∷◌}
+use mathlib.Core.List.{List, [], ◌∷◌, ◌++◌}
 use mathlib.Core.Bool.{false, ◌&&◌}
-use Prim.Native.Nat.{ℕ, zero, suc, ◌+◌, ◌-◌, ◌*◌, ◌/◌, ◌%◌, ◌^◌, ◌≤◌, ◌<◌}
+use Prim.Native.Nat.{ℕ, zero, suc, ◌+◌, ◌*◌, ◌/◌, ◌%◌, ◌^◌, ◌≤◌, ◌<◌}
 use native.Mathlib.Omega.{arith}
 use lib.Dec.{eqb}
 use lib.Bits.{bit_or, or_add_and, and_le_r}
-use lib.ListN.{length, get_or, set, replicate, length-set}
+use lib.ListN.{length, get_or, set, take, drop, replicate, length-set}
 use lib.Seq.{get_or-set_same, get_or-set_other, ext_get_or}
 use borrow.Author.Tests.{lt-ltb, eqb-true, eqb-false}
 use Rattle.lists.proofs.Bools.{bool, not_both}
 use Rattle.reach_sets.specs.declared.NodeSet.{NodeSet}
 use Rattle.reach_sets.specs.Sets.{word_at, set_at, stored_at, set_to}
-use Rattle.reach_sets.specs.Inner.{single_of, same_words, room}
-use Rattle.reach_sets.proofs.Nodes.{four}
+use Rattle.reach_sets.specs.Inner.{single_of, room}
+use Rattle.reach_sets.proofs.Nodes.{four, same_words}
 
 -- a set is its four words
 pub four_words : (s : NodeSet) → length s.words ≡ 4 → record { words = word_at s 0 ∷ word_at s 1 ∷ word_at s 2 ∷ word_at s 3 ∷ [] } ≡ s
@@ -21,6 +21,28 @@ four_words s l =
     ap (λ (ws : List ℕ). record { words = ws })
     (ext_get_or 0 (word_at s 0 ∷ word_at s 1 ∷ word_at s 2 ∷ word_at s 3 ∷ []) s.words (sym l)
     (four (λ k. get_or (word_at s 0 ∷ word_at s 1 ∷ word_at s 2 ∷ word_at s 3 ∷ []) k 0 ≡ word_at s k) refl refl refl refl))
+
+-- four stores side by side put four numbers in the place of four
+four_set : (i : ℕ) (t : List ℕ) (a b c d : ℕ) → i + 3 < length t
+    → set (set (set (set t i a) (i + 1) b) (i + 2) c) (i + 3) d ≡ take i t ++ (a ∷ b ∷ c ∷ d ∷ drop 4 (drop i t))
+four_set zero [] a b c d h = absurd (omega arith)
+four_set zero (w ∷ []) a b c d h = absurd (omega arith)
+four_set zero (w ∷ x ∷ []) a b c d h = absurd (omega arith)
+four_set zero (w ∷ x ∷ y ∷ []) a b c d h = absurd (omega arith)
+four_set zero (w ∷ x ∷ y ∷ z ∷ t) a b c d h = refl
+four_set (suc i) [] a b c d h = absurd (omega arith)
+four_set (suc i) (w ∷ t) a b c d h =
+    let p1 : suc i + 1 ≡ suc (i + 1) = omega arith in
+    let p2 : suc i + 2 ≡ suc (i + 2) = omega arith in
+    let p3 : suc i + 3 ≡ suc (i + 3) = omega arith in
+    rw (p1, p2, p3) (ap (λ (l : List ℕ). w ∷ l) (four_set i t a b c d (omega arith)))
+
+-- so they are a copy of a set's words
+pub words_copied : (t : List ℕ) (node : ℕ) (s : NodeSet) → length s.words ≡ 4 → 4 * node + 3 < length t
+    → stored_at t node s ≡ take (4 * node) t ++ (s.words ++ drop 4 (drop (4 * node) t))
+words_copied t node s l h =
+    four_set (4 * node) t (word_at s 0) (word_at s 1) (word_at s 2) (word_at s 3) h
+    ∙ ap (λ (x : NodeSet). take (4 * node) t ++ (x.words ++ drop 4 (drop (4 * node) t))) (four_words s l)
 
 module _ (t : List ℕ) (node : ℕ) (s : NodeSet) where
   abbrev t1 : List ℕ
@@ -148,30 +170,24 @@ module _ (t : List ℕ) (node : ℕ) (s : NodeSet) (h : 4 * node + 3 < length t)
       (more 0 (omega arith)) (more 1 (omega arith)) (more 2 (omega arith)) (more 3 (omega arith)) other in
       omega (arith, room_stored, grew)
 
--- ---- each node's own set, from the last node down
+-- ---- each node's own set, in turn
 
-pub record Starting (n : ℕ) (table₀ : List ℕ) (node : ℕ) (table : List ℕ) : Type 0 where
-  pub so_far : node ≤ n
+pub record Starting (table₀ : List ℕ) (node : ℕ) (table : List ℕ) : Type 0 where
   pub long : length table ≡ length table₀
-  pub each : (x : ℕ) → node ≤ x → x < n → set_at table x ≡ single_of x
+  pub each : (x : ℕ) → x < node → set_at table x ≡ single_of x
 
-pub starting_start : (n : ℕ) (table : List ℕ) → Starting n table n table
-starting_start n table = record { so_far = omega arith; long = refl; each = λ x h l. absurd (omega arith) }
+pub starting_start : (table : List ℕ) → Starting table 0 table
+starting_start table = record { long = refl; each = λ x h. absurd (omega arith) }
 
-pub starting_more : (n : ℕ) (table₀ : List ℕ) (node : ℕ) (table : List ℕ) → Starting n table₀ node table → length table₀ ≡ 4 * n → 0 < node
-    → (s : NodeSet) → s ≡ single_of (node - 1) → (table' : List ℕ) → table' ≡ set_to table (node - 1) s → Starting n table₀ (node - 1) table'
+pub starting_more : (n : ℕ) (table₀ : List ℕ) (node : ℕ) (table : List ℕ) → Starting table₀ node table → length table₀ ≡ 4 * n → node < n
+    → (s : NodeSet) → s ≡ single_of node → (table' : List ℕ) → table' ≡ set_to table node s → Starting table₀ (node + 1) table'
 starting_more n table₀ node table k whole h s is table' e =
-    let i : ℕ = node - 1 in
-    let l : i < length table / 4 = omega (arith, k.long, k.so_far) in
+    let l : node < length table / 4 = omega (arith, k.long) in
     record {
-      so_far = omega (arith, k.so_far);
-      long = rw e (put_long table i s l ∙ k.long);
-      each = λ x a b.
+      long = rw e (put_long table node s l ∙ k.long);
+      each = λ x a.
           rw e
-          (bool (eqb x i)
-          (λ q. let p = eqb-true x i q in rw p (put_same table i s l (rw is (length-set {A = ℕ} (replicate 4 0) (i / 64) (2 ^ (i % 64)))) ∙ is))
-          (λ q. let d = eqb-false x i q in put_other table i s l x d ∙ k.each x (omega (arith, a, d)) b));
+          (bool (eqb x node)
+          (λ q. let p = eqb-true x node q in rw p (put_same table node s l (rw is (length-set {A = ℕ} (replicate 4 0) (node / 64) (2 ^ (node % 64)))) ∙ is))
+          (λ q. let d = eqb-false x node q in put_other table node s l x d ∙ k.each x (omega (arith, a, d))));
     }
-
-pub starting_end : (n : ℕ) (table₀ : List ℕ) (node : ℕ) (table : List ℕ) → Starting n table₀ node table → node ≤ 0 → (x : ℕ) → x < n → set_at table x ≡ single_of x
-starting_end n table₀ node table k h x l = k.each x (omega arith) l

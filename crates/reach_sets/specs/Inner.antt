@@ -1,17 +1,13 @@
 -- Terms of the contracts of private functions only: no definition of the paper is here. Assumes nothing.
-use Rattle.std.specs.Prelude.{◌≡◌, List, [], ◌∷◌, Bool, true, cond, ◌&&◌, ℕ, ◌+◌, ◌-◌, ◌*◌, ◌/◌, ◌%◌, ◌^◌, ◌<◌, ◌≤◌, min, eqb, length, set, replicate}
+use Rattle.std.specs.Prelude.{◌≡◌, List, [], ◌∷◌, true, cond, ℕ, ◌+◌, ◌-◌, ◌*◌, ◌/◌, ◌%◌, ◌^◌, ◌<◌, ◌≤◌, min, eqb, length, set, replicate}
 use Rattle.hierarchy.specs.Hierarchy.{edges_of, Edge, Reach, reach, Legal}
 use Rattle.intervals.specs.Numbering.{numbering}
 use Rattle.reach_sets.specs.declared.NodeSet.{NodeSet}
-use Rattle.reach_sets.specs.Sets.{word_at, has, joined, set_at, set_of}
+use Rattle.reach_sets.specs.Sets.{has, joined, set_at, set_of}
 
 -- the set of one node
 abbrev pub single_of : ℕ → NodeSet
 single_of node = record { words = set (replicate 4 0) (node / 64) (2 ^ (node % 64)) }
-
--- two sets have the same four words
-abbrev pub same_words : NodeSet → NodeSet → Bool
-same_words a b = eqb (word_at a 0) (word_at b 0) && eqb (word_at a 1) (word_at b 1) && eqb (word_at a 2) (word_at b 2) && eqb (word_at a 3) (word_at b 3)
 
 -- how far the words of a table are from having every bit: a set that grows lessens it
 unfoldable pub room : List ℕ → ℕ
@@ -49,10 +45,6 @@ pub record Fillable (n edge_count : ℕ) (edges table : List ℕ) : Type 0 where
   pub legal : Legal n edges edge_count
   pub whole : 2 * edge_count ≤ length edges
   pub long : length table ≡ 4 * n
-
--- a number that counts, or 0
-abbrev pub counted_if : Bool → ℕ → ℕ
-counted_if b k = cond b k 0
 
 -- the less of two numbers, where 0 is none
 abbrev pub less_of : ℕ → ℕ → ℕ

@@ -12,11 +12,11 @@ use Rattle.lists.specs.Answer.{Answer, done, refused as denied}
 use Rattle.blocks.specs.Record.{kind_of, party_in, mode_in, name_count_in, names_in, node_in, value_in}
 use Rattle.desk.specs.declared.Desk.{Desk}
 use Rattle.locks.specs.declared.Mode.{Mode}
-use Rattle.desk.specs.declared.EnterStep.{EnterStep}
-use Rattle.desk.specs.declared.GetStep.{GetStep}
-use Rattle.desk.specs.declared.PutStep.{PutStep}
-use Rattle.desk.specs.declared.AddStep.{AddStep}
-use Rattle.desk.specs.declared.LeaveStep.{LeaveStep}
+use Rattle.std.specs.Prelude.{Result}
+use Rattle.refusals.specs.declared.Refusal.{Refusal}
+use Rattle.desk.specs.declared.EnterAnswer.{EnterAnswer}
+use Rattle.desk.specs.declared.GetAnswer.{GetAnswer}
+use Rattle.desk.specs.declared.Step.{Step as DeskStep}
 use Rattle.locks.specs.Locks.{mode_numbered}
 use Rattle.locks.specs.Lent.{Hierarchy}
 use Rattle.desk.specs.Steps.{granted as admitted, Admission, waits as queued, EnterResult, GetResult, PutResult, LeaveResult, after_leaving}
@@ -27,12 +27,12 @@ use Rattle.runs.proofs.Lends.{restored_full, put_length, add_length}
 use Rattle.runs.proofs.Exact.{call_exact}
 use Rattle.runs.proofs.Runs.{move_hierarchy}
 use Rattle.replay.specs.declared.Outcome.{Outcome}
-use Rattle.replay.specs.declared.Outcome.TheVariants.{Refused}
+use Rattle.replay.specs.declared.Outcome.TheVariants.{Stored, Added, Refused}
 use Rattle.replay.specs.declared.Step.{Step}
 use Rattle.replay.specs.Replay.{enter_call, fresh_scratch, get_call, put_call, add_call, leave_call, call_of, step_of, StepAnswer, granted, waits, value, perform_all, answers_of}
 use Rattle.replay.specs.Replay.{stored, added, left, refused, enter_line, get_line, put_line, add_line, leave_line, answer_in, state_of, is_step, perform_step, performed, perform_if, perform}
 use Rattle.replay.specs.Answers.{step_meaning, outcome_of, parties_of, Performs}
-use Rattle.replay.specs.Inner.{left_outcome, PerformsCall, PerformsAny}
+use Rattle.replay.specs.Inner.{left_outcome, told, plain, PerformsCall, PerformsAny}
 
 -- an answer's one form means it
 form_means : (a : StepAnswer) → step_meaning (outcome_of a) (parties_of a) ≡ a
@@ -76,6 +76,15 @@ add_none : (a : Answer (Unit {0})) → parties_of (add_line a) ≡ replicate 32 
 add_none (done _) = refl
 add_none (denied k) = refl
 
+-- what put and add answered
+pub told_put : (a : Answer (Unit {0})) → told a Stored ≡ outcome_of (put_line a)
+told_put (done _) = refl
+told_put (denied k) = refl
+
+pub told_add : (a : Answer (Unit {0})) → told a Added ≡ outcome_of (add_line a)
+told_add (done _) = refl
+told_add (denied k) = refl
+
 -- leave's list, read back
 module _ (d : Desk) (party : ℕ) where
   abbrev line : LeaveResult → StepAnswer
@@ -92,12 +101,8 @@ module _ (d : Desk) (party : ℕ) where
 
 -- WHAT EACH STEP OF A FILE DOES, from what the step of the desk hands back and the fields that were read
 module _ (H : Hierarchy) (d : Desk) (bytes : List ℕ) (party : ℕ) (at-party : party ≡ party_in bytes) where
-  -- a step that lists no parties
-  abbrev plain : Desk → Outcome → Step
-  plain desk o = record { desk = desk; outcome = o; parties = replicate 32 0 }
-
   pub entered_performs : (mode : Mode) (names : List ℕ) (named : ℕ) → mode ≡ mode_numbered (mode_in bytes) → names ≡ names_in bytes → named ≡ name_count_in bytes
-      → (r : EnterStep) (o : Outcome) → Enters r (enter_step H d party mode names named) → o ≡ outcome_of (enter_line (enter_meaning r.answer))
+      → (r : DeskStep EnterAnswer) (o : Outcome) → Enters r (enter_step H d party mode names named) → o ≡ outcome_of (enter_line (enter_meaning r.answer))
       → PerformsAny (plain r.desk o) H d (enter_call bytes)
   unfolding move_call after_enter
   entered_performs mode names named em en ec r o e eo values =
@@ -106,7 +111,7 @@ module _ (H : Hierarchy) (d : Desk) (bytes : List ℕ) (party : ℕ) (at-party :
       subst (λ (y : EnterResult). Performs (plain r.desk o) values (performed (after_enter (party_in bytes) (state_of H d values) y))) same
       (performs _ values (after_enter (party_in bytes) (state_of H d values) x) e.0 refl (eo ∙ ap (λ (a : Answer Admission). outcome_of (enter_line a)) e.1) (sym (enter_none x.answer)))
 
-  pub got_performs : (node : ℕ) → node ≡ node_in bytes → (values scratch : List ℕ) (r : GetStep) (o : Outcome) → Gets r scratch (get_step H d party node values fresh_scratch)
+  pub got_performs : (node : ℕ) → node ≡ node_in bytes → (values scratch : List ℕ) (r : DeskStep GetAnswer) (o : Outcome) → Gets r scratch (get_step H d party node values fresh_scratch)
       → o ≡ outcome_of (get_line (get_meaning r.answer)) → PerformsCall (plain r.desk o) H d (get_call bytes) values values
   unfolding move_call after_get lend
   got_performs node en values scratch r o e eo =
@@ -126,7 +131,7 @@ module _ (H : Hierarchy) (d : Desk) (bytes : List ℕ) (party : ℕ) (at-party :
       (performs _ values' (after x) e.0 (e.2 ∙ sym (restored_full values x.values long))
       (eo ∙ ap (λ (b : Answer (Unit {0})). outcome_of (answer_in (event b))) e.1) (sym (none-listed x.answer)))
 
-  pub stored_performs : (node number : ℕ) → node ≡ node_in bytes → number ≡ value_in bytes → (values values' scratch : List ℕ) (r : PutStep) (o : Outcome)
+  pub stored_performs : (node number : ℕ) → node ≡ node_in bytes → number ≡ value_in bytes → (values values' scratch : List ℕ) (r : DeskStep (Result (Unit {0}) Refusal)) (o : Outcome)
       → Puts r values' scratch (put_step H d party node number values fresh_scratch) → o ≡ outcome_of (put_line (put_meaning r.answer))
       → PerformsCall (plain r.desk o) H d (put_call bytes) values values'
   unfolding move_call after_put lend
@@ -135,7 +140,7 @@ module _ (H : Hierarchy) (d : Desk) (bytes : List ℕ) (party : ℕ) (at-party :
       changed_performs (wrote (party_in bytes) (node_in bytes) (value_in bytes)) put_none _ _ same values values' scratch
       (put_length H d party node number values fresh_scratch) r.desk (put_meaning r.answer) o e eo
 
-  pub added_performs : (node number : ℕ) → node ≡ node_in bytes → number ≡ value_in bytes → (values values' scratch : List ℕ) (r : AddStep) (o : Outcome)
+  pub added_performs : (node number : ℕ) → node ≡ node_in bytes → number ≡ value_in bytes → (values values' scratch : List ℕ) (r : DeskStep (Result (Unit {0}) Refusal)) (o : Outcome)
       → Adds r values' scratch (add_step H d party node number values fresh_scratch) → o ≡ outcome_of (add_line (add_meaning r.answer))
       → PerformsCall (plain r.desk o) H d (add_call bytes) values values'
   unfolding move_call after_add lend
@@ -144,7 +149,7 @@ module _ (H : Hierarchy) (d : Desk) (bytes : List ℕ) (party : ℕ) (at-party :
       changed_performs (summed (party_in bytes) (node_in bytes) (value_in bytes)) add_none _ _ same values values' scratch
       (add_length H d party node number values fresh_scratch) r.desk (add_meaning r.answer) o e eo
 
-  pub left_performs : (r : LeaveStep) (list : List ℕ) (o : Outcome) → Leaves r list (leave_step H d party (replicate 32 0)) → o ≡ left_outcome (leave_meaning r.answer)
+  pub left_performs : (r : DeskStep (Result ℕ Refusal)) (list : List ℕ) (o : Outcome) → Leaves r list (leave_step H d party (replicate 32 0)) → o ≡ left_outcome (leave_meaning r.answer)
       → PerformsAny (record { desk = r.desk; outcome = o; parties = list }) H d (leave_call bytes)
   unfolding move_call after_leave leave_step
   left_performs r list o e eo values =
@@ -178,9 +183,9 @@ module _ (r : List ℕ) where
 
 -- ANY BYTES. What is no step is refused with 4
 pub performs_none : (H : Hierarchy) (d : Desk) (values bytes : List ℕ) → is_step bytes ≡ false
-    → Performs (record { desk = d; outcome = Refused 4; parties = replicate 32 0 }) values (perform (state_of H d values) bytes)
+    → Performs (plain d (Refused 4)) values (perform (state_of H d values) bytes)
 performs_none H d values bytes e =
-    subst (λ (b : Bool). Performs (record { desk = d; outcome = Refused 4; parties = replicate 32 0 }) values (perform_if b (state_of H d values) bytes)) (sym e)
+    subst (λ (b : Bool). Performs (plain d (Refused 4)) values (perform_if b (state_of H d values) bytes)) (sym e)
     (record { desk = refl; values_after = refl; meaning = refl; outcome = refl; parties = refl })
 
 -- a step is performed

@@ -4,11 +4,11 @@ use mathlib.Core.Logic.{◌≢◌}
 use mathlib.Core.List.{List, [], ◌∷◌, ◌++◌}
 use mathlib.Core.Bool.{Bool, true, false, cond}
 use Prim.Native.Nat.{ℕ, zero, suc, ◌+◌, ◌-◌, ◌*◌, ◌/◌, ◌<◌, ◌≤◌, min}
-use native.Mathlib.Nat.{not-suc-le-zero, add-zero, zero-add}
+use native.Mathlib.Nat.{not-suc-le-zero, zero-add}
 use native.Mathlib.Numerals.{add-one}
 use native.Mathlib.Omega.{arith}
 use lib.Dec.{eqb, ltb}
-use lib.ListN.{length, get_or, take, drop, set, length-append, length-take, length-drop, length-set, drop_of_length-le}
+use lib.ListN.{length, get_or, take, drop, set, length-append, length-take, length-drop, length-set}
 use borrow.Author.Tests.{ne_eqb}
 use lib.Seq.{set_out, get_or-take, get_or-drop, drop-drop, sets-eq}
 use Rattle.lists.specs.Lists.{count, one, over}
@@ -20,7 +20,8 @@ use Rattle.octets.specs.Writes.{over_at}
 use Rattle.octets.proofs.Writes.{over_over, over_none, over_turn}
 use Rattle.locks.proofs.Tables.{half_ltb}
 use Rattle.replay.specs.Replay.{each_record, record_list, size_of, edge_if, edge_table, edge_count_of, with_value, values_from}
-use Rattle.replay.specs.declared.EdgesAnswer.TheVariants.{Edges, Refused as EdgesRefused}
+use Rattle.std.specs.Prelude.{Ok, Err}
+use Rattle.refusals.specs.declared.Refusal.TheVariants.{Short}
 use Rattle.replay.specs.Answers.{edges_refusal, EdgesInto, edges_into}
 use Rattle.replay.specs.Inner.{record_at, edge_of}
 
@@ -74,27 +75,21 @@ edge_table_length (r ∷ rs) = by (eqb (kind_of r) 2) (edge_table_length rs)
     by true e = omega arith
     by false e = omega arith
 
-module _ (l : List (List ℕ)) (i : ℕ) {r : List ℕ} (at_i : get_or l i [] ≡ r) (h : i < length l) where
-  pub table_step : edge_table (drop i l) ≡ edge_of r ++ edge_table (drop (i + 1) l)
-  table_step = ap edge_table (drop_step l i [] at_i h) ∙ edge_table_cons r (drop (i + 1) l)
+-- a record's edge is put into the table
+pub table_turn : (r : List ℕ) (rs : List (List ℕ)) (at : ℕ) (table : List ℕ) → at + length (edge_table (r ∷ rs)) ≤ length table
+    → over_at (at + length (edge_of r)) (edge_table rs) (over_at at (edge_of r) table) ≡ over_at at (edge_table (r ∷ rs)) table
+table_turn r rs at table fits =
+    let e = edge_table_cons r rs in
+    over_over table at (edge_of r) (edge_table rs) (omega (arith, ap length e, length-append (edge_of r) (edge_table rs)))
+    ∙ ap (λ (t : List ℕ). over_at at t table) (sym e)
 
-  pub table_length_step : length (edge_table (drop i l)) ≡ length (edge_of r) + length (edge_table (drop (i + 1) l))
-  table_length_step = ap length table_step ∙ length-append (edge_of r) (edge_table (drop (i + 1) l))
+pub table_length_step : (r : List ℕ) (rs : List (List ℕ)) → length (edge_table (r ∷ rs)) ≡ length (edge_of r) + length (edge_table rs)
+table_length_step r rs = ap length (edge_table_cons r rs) ∙ length-append (edge_of r) (edge_table rs)
 
-  -- a record's edge is put into the table
-  pub table_turn : (at : ℕ) (table : List ℕ) → at + length (edge_table (drop i l)) ≤ length table
-      → over_at (at + length (edge_of r)) (edge_table (drop (i + 1) l)) (over_at at (edge_of r) table) ≡ over_at at (edge_table (drop i l)) table
-  table_turn at table fits =
-      over_over table at (edge_of r) (edge_table (drop (i + 1) l)) (omega (arith, table_length_step))
-      ∙ ap (λ (t : List ℕ). over_at at t table) (sym table_step)
-
-pub table_end : (l : List (List ℕ)) (i at : ℕ) (table : List ℕ) → length l ≤ i → table ≡ over_at at (edge_table (drop i l)) table
+-- and no record is left
+pub table_end : (at : ℕ) (table : List ℕ) → table ≡ over_at at (edge_table []) table
 unfolding edge_table
-table_end l i at table h = rw (drop_of_length-le l h) (sym (over_none table at))
-
--- the kind of a record
-pub record_kind : (bytes : List ℕ) (i : ℕ) → kind_of (record_at bytes i) ≡ byte (16 * i) bytes
-record_kind bytes i = record_byte bytes i 0 (omega arith) ∙ ap (λ (k : ℕ). byte k bytes) (add-zero (16 * i))
+table_end at table = sym (over_none table at)
 
 -- THE VALUES, record by record
 pub with_length : (values r : List ℕ) → length (with_value values r) ≡ length values
@@ -119,17 +114,6 @@ pub values_length : (rs : List (List ℕ)) (values : List ℕ) → length (value
 unfolding values_from
 values_length [] values = refl
 values_length (r ∷ rs) values = values_length rs (with_value values r) ∙ with_length values r
-
-pub values_turn : (bytes : List ℕ) (i : ℕ) (values : List ℕ) {whole : List ℕ} → i < length bytes / 16 → values_from values (drop i (record_list bytes)) ≡ whole
-    → values_from (with_value values (take (16 * i + 16 - 16 * i) (drop (16 * i) bytes))) (drop (i + 1) (record_list bytes)) ≡ whole
-unfolding values_from
-values_turn bytes i values h inv =
-    let w : 16 * i + 16 - 16 * i ≡ 16 = omega arith in
-    rw w (ap (values_from values) (sym (drop_step (record_list bytes) i [] (records_at bytes i h) (omega (arith, records_length bytes)))) ∙ inv)
-
-pub values_end : (bytes : List ℕ) (i : ℕ) (values : List ℕ) {whole : List ℕ} → length bytes / 16 ≤ i → values_from values (drop i (record_list bytes)) ≡ whole → values ≡ whole
-unfolding values_from
-values_end bytes i values h inv = let past : length (record_list bytes) ≤ i = omega (arith, records_length bytes) in ap (values_from values) (sym (drop_of_length-le (record_list bytes) past)) ∙ inv
 
 -- n is that of the first record
 size_of_law : (k : ℕ) (bytes : List ℕ) → 1 ≤ k → size_of (each_record k bytes) ≡ number2 1 bytes
@@ -185,11 +169,11 @@ module _ (rs : List (List ℕ)) (table : List ℕ) where
   short_is : (b : Bool) → ltb (length table / 2) (edge_count_of rs) ≡ b → edges_refusal rs table ≡ refusal (1 when b ∷ [])
   short_is b e = ap (λ (x : Bool). refusal (1 when x ∷ [])) (sym (half_ltb (length table) (edge_count_of rs)) ∙ e)
 
-  pub edges_short : ltb (length table / 2) (edge_count_of rs) ≡ true → EdgesInto (EdgesRefused 1) table (edges_into rs table)
+  pub edges_short : ltb (length table / 2) (edge_count_of rs) ≡ true → EdgesInto (Err Short) table (edges_into rs table)
   unfolding edges_into refusal
   edges_short e = rw (short_is true e) (refl, refl)
 
   pub edges_done : (table' : List ℕ) → ltb (length table / 2) (edge_count_of rs) ≡ false → table' ≡ over (edge_table rs) table
-      → EdgesInto (Edges (edge_count_of rs)) table' (edges_into rs table)
+      → EdgesInto (Ok (edge_count_of rs)) table' (edges_into rs table)
   unfolding edges_into refusal
   edges_done table' e t = rw (short_is false e) (refl, t)

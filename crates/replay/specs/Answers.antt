@@ -1,10 +1,10 @@
 -- What each case of replay's answers is in the paper, and what its functions promise. Assumes nothing.
-use Rattle.std.specs.Prelude.{◌≡◌, List, [], ◌∷◌, ℕ, ◌*◌, ltb, length, take, replicate}
+use Rattle.std.specs.Prelude.{◌≡◌, List, [], ◌∷◌, ℕ, ◌*◌, ltb, length, take, replicate, Result}
 use Rattle.std.proofs.Math.Option.{Option}
 use Rattle.lists.specs.Lists.{over}
-use Rattle.lists.specs.Answer.{Answer, done, refused as denied, ◌when◌, refusal, answer_of, room_after}
-use Rattle.replay.specs.declared.EdgesAnswer.{EdgesAnswer}
-use Rattle.replay.specs.declared.EdgesAnswer.TheVariants.{Edges, Refused as EdgesRefused}
+use Rattle.lists.specs.Answer.{Answer, ◌when◌, refusal, answer_of, room_after}
+use Rattle.refusals.specs.Refusals.{meaning}
+use Rattle.refusals.specs.declared.Refusal.{Refusal}
 use Rattle.replay.specs.declared.Outcome.{Outcome}
 use Rattle.replay.specs.declared.Outcome.TheVariants.{Granted, Waits, Value, Stored, Added, Left, Refused}
 use Rattle.replay.specs.declared.Step.{Step}
@@ -24,14 +24,9 @@ unfoldable pub edges_into : List (List ℕ) → List ℕ → EdgesResult
 edges_into rs table =
     record { answer = answer_of (edges_refusal rs table) (edge_count_of rs); table = room_after (edges_refusal rs table) (edge_table rs) table }
 
--- the count of edges, or refused
-abbrev pub edges_meaning : EdgesAnswer → Answer ℕ
-edges_meaning (Edges count) = done count
-edges_meaning (EdgesRefused k) = denied k
-
 -- what `edges` promises
-abbrev pub EdgesInto : EdgesAnswer → List ℕ → EdgesResult → Type 0
-EdgesInto r table s = (edges_meaning r ≡ s.answer) × (table ≡ s.table)
+abbrev pub EdgesInto : Result ℕ Refusal → List ℕ → EdgesResult → Type 0
+EdgesInto r table s = (meaning r ≡ s.answer) × (table ≡ s.table)
 
 -- A STEP. What each case of its answer is in the paper; `parties` has those that a leave granted first, as many as it counts, or as there are
 abbrev pub step_meaning : Outcome → List ℕ → StepAnswer

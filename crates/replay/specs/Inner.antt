@@ -1,5 +1,5 @@
 -- Terms of the contracts of private functions only: no definition of the paper is here. Assumes nothing.
-use Rattle.std.specs.Prelude.{List, [], ℕ, ◌*◌, eqb, take, drop}
+use Rattle.std.specs.Prelude.{List, [], ℕ, ◌*◌, eqb, take, drop, replicate}
 use Rattle.lists.specs.Answer.{Answer, done, refused as denied}
 use Rattle.blocks.specs.Record.{kind_of, parent_in, child_in}
 use Rattle.desk.specs.declared.Desk.{Desk}
@@ -23,6 +23,15 @@ edge_of r = edge_if (eqb (kind_of r) 2) (parent_in r) (child_in r) []
 abbrev pub left_outcome : Answer ℕ → Outcome
 left_outcome (done k) = Left k
 left_outcome (denied k) = Refused k
+
+-- the outcome of a put or an add, the one given where it is done
+abbrev pub told : Answer (Unit {0}) → Outcome → Outcome
+told (done _) o = o
+told (denied k) o = Refused k
+
+-- a step that grants no parties
+abbrev pub plain : Desk → Outcome → Step
+plain desk o = record { desk = desk; outcome = o; parties = replicate 32 0 }
 
 -- a call performed, on a desk and the tables themselves
 abbrev pub PerformsCall : Step → Hierarchy → Desk → Call → (values values' : List ℕ) → Type 0

@@ -9,23 +9,22 @@ use lib.ListN.{length, take, drop}
 use lib.Seq.{take_at}
 use Rattle.lists.specs.Lists.{over}
 use Rattle.lists.specs.Answer.{refused}
-use Rattle.blocks.specs.declared.WriteAnswer.{WriteAnswer}
-use Rattle.blocks.specs.declared.WriteAnswer.TheVariants.{Blocks, Refused as WriteRefused}
-use Rattle.blocks.specs.File.{FileResult, write_file, write_meaning}
-use Rattle.shorter.specs.declared.CutAnswer.{CutAnswer}
-use Rattle.shorter.specs.declared.CutAnswer.TheVariants.{Cut, Refused}
+use Rattle.std.specs.Prelude.{Result, Err}
+use Rattle.refusals.specs.declared.Refusal.{Refusal}
+use Rattle.refusals.specs.Refusals.{meaning}
+use Rattle.blocks.specs.File.{FileResult, write_file}
+use Rattle.refusals.specs.declared.Refusal.TheVariants.{FewSteps, SomeoneIn}
 use Rattle.locks.specs.Lent.{Hierarchy}
 use Rattle.desk.specs.declared.Desk.{Desk}
 use Rattle.desk.specs.Desks.{fresh_desk}
 use Rattle.runs.specs.Run.{State}
 use Rattle.replay.specs.Replay.{record_list, step_records, state_of, values_in, start_of, perform_all}
 use Rattle.parties.specs.Parties.{someone_in}
-use Rattle.shorter.specs.Answers.{cut_meaning}
 use Rattle.shorter.specs.Inner.{short_bytes, ran_over, steps_at, kept_bytes, Shaped, cut_run, Wrote, Runs}
 
 -- WRITING the records that stand first in an array
-module _ (bytes places room : List ℕ) {short room' : List ℕ} {n : ℕ} (laid : short ≡ over bytes places) (size : n ≡ length bytes) (a : WriteAnswer)
-    (answers : write_meaning a ≡ (write_file (take n short) (n / 16) room).answer) (leaves : room' ≡ (write_file (take n short) (n / 16) room).room) where
+module _ (bytes places room : List ℕ) {short room' : List ℕ} {n : ℕ} (laid : short ≡ over bytes places) (size : n ≡ length bytes) (a : Result ℕ Refusal)
+    (answers : meaning a ≡ (write_file (take n short) (n / 16) room).answer) (leaves : room' ≡ (write_file (take n short) (n / 16) room).room) where
   same : write_file (take n short) (n / 16) room ≡ write_file bytes (length bytes / 16) room
   unfolding over
   same =
@@ -33,14 +32,8 @@ module _ (bytes places room : List ℕ) {short room' : List ℕ} {n : ℕ} (laid
       ∙ ap (λ (t : List ℕ). write_file t (n / 16) room) (take_at bytes (drop (length bytes) places) n (sym size))
       ∙ ap (λ (k : ℕ). write_file bytes (k / 16) room) size
 
-  wrote_as : (r : CutAnswer) → cut_meaning r ≡ write_meaning a → Wrote bytes room r room'
-  wrote_as r e = (e ∙ answers ∙ ap (λ (x : FileResult). x.answer) same, leaves ∙ ap (λ (x : FileResult). x.room) same)
-
-  pub wrote_done : (k : ℕ) → a ≡ Blocks k → Wrote bytes room (Cut k) room'
-  wrote_done k e = wrote_as (Cut k) (sym (ap write_meaning e))
-
-  pub wrote_refused : (k : ℕ) → a ≡ WriteRefused k → Wrote bytes room (Refused k) room'
-  wrote_refused k e = wrote_as (Refused k) (sym (ap write_meaning e))
+  pub wrote : Wrote bytes room a room'
+  wrote = (answers ∙ ap (λ (x : FileResult). x.answer) same, leaves ∙ ap (λ (x : FileResult). x.room) same)
 
 -- where the steps begin, by how many there are
 pub steps_at_law : (bytes : List ℕ) (k : ℕ) {many : ℕ} → many ≡ length (step_records (record_list bytes)) → 16 * (length bytes / 16 - many) + 16 * k ≡ steps_at bytes + 16 * k
@@ -58,7 +51,7 @@ first_steps H bytes k {many} s e =
 
 -- AN OPENED FILE
 module _ (H : Hierarchy) (bytes : List ℕ) (k : ℕ) (room : List ℕ) where
-  pub too_far : length (step_records (record_list bytes)) < k → Runs H bytes k room (Refused 19) room
+  pub too_far : length (step_records (record_list bytes)) < k → Runs H bytes k room (Err FewSteps) room
   too_far h =
       let e : cut_run H bytes k room ≡ record { answer = refused 19; room = room } = ap (λ (b : Bool). cut_by b (someone_in (ran_over H bytes k).state.desk.entries)) (lt-ltb _ _ h) in
       (sym (ap (λ (x : FileResult). x.answer) e), sym (ap (λ (x : FileResult). x.room) e))
@@ -88,14 +81,14 @@ module _ (H : Hierarchy) (bytes : List ℕ) (k : ℕ) (room : List ℕ) where
       tested : {b : Bool} → b ≡ someone_in d.entries → someone_in (ran_over H bytes k).state.desk.entries ≡ b
       tested e = sym (e ∙ ap (λ (s : State). someone_in s.desk.entries) reached)
 
-      pub someone_in_law : true ≡ someone_in d.entries → Runs H bytes k room (Refused 20) room
+      pub someone_in_law : true ≡ someone_in d.entries → Runs H bytes k room (Err SomeoneIn) room
       someone_in_law e =
           let p = picked true (tested e) in (sym (ap (λ (x : FileResult). x.answer) p), sym (ap (λ (x : FileResult). x.room) p))
 
       pub same_values : values' ≡ (ran_over H bytes k).state.values
       same_values = ap (λ (s : State). s.values) reached
 
-      pub nobody_in : (r : CutAnswer) {room' : List ℕ} → false ≡ someone_in d.entries → Wrote (short_bytes bytes (16 * (1 + H.edge_count)) (steps_at bytes + 16 * k) values') room r room'
+      pub nobody_in : (r : Result ℕ Refusal) {room' : List ℕ} → false ≡ someone_in d.entries → Wrote (short_bytes bytes (16 * (1 + H.edge_count)) (steps_at bytes + 16 * k) values') room r room'
           → Runs H bytes k room r room'
       nobody_in r {room'} e w =
           let p = picked false (tested e) in

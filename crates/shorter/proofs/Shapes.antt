@@ -20,8 +20,10 @@ use Rattle.replay.specs.Replay.{each_record, record_list, edge_count_of, step_re
 use Rattle.replay.proofs.Records.{records_length}
 use Rattle.opening.specs.Opening.{file_rows, built_checks}
 use Rattle.opening.proofs.Opens.{refusal_front, Ready}
-use Rattle.shorter.specs.declared.CutAnswer.{CutAnswer}
-use Rattle.shorter.specs.declared.CutAnswer.TheVariants.{Refused}
+use Rattle.std.specs.Prelude.{Result, Err}
+use Rattle.refusals.specs.declared.Refusal.{Refusal}
+use Rattle.refusals.specs.declared.Refusal.TheVariants.{Short}
+use Rattle.refusals.specs.Refusals.{refusal_number}
 use Rattle.cutting.specs.Cut.{after_first, head_records, value_records, cut_records, too_far, someone_after, cut_refusal, bytes_of, blocks_of_all, cut_file}
 use Rattle.shorter.specs.Inner.{steps_at, kept_bytes, Shaped, cut_run, Left, Runs}
 use Rattle.cutting.proofs.Parts.{of_head, of_value, of_step, three_kinds}
@@ -101,11 +103,11 @@ module _ (file : List ℕ) (k : ℕ) (room : List ℕ) where
   unfolding cut_file
   refused_by j e = ap (λ (o : Option ℕ). leaving o (blocks_for (length (cut_records (file_rows file) k))) (blocks_of_all (cut_records (file_rows file) k)) room) e
 
-  turned : (j : ℕ) → cut_refusal file k room ≡ some j → Left (Refused j) room (cut_file file k room)
-  turned j e = let g = refused_by j e in (sym (ap (λ (x : FileResult). x.answer) g), sym (ap (λ (x : FileResult). x.room) g))
+  turned : (j : Refusal) → cut_refusal file k room ≡ some (refusal_number j) → Left (Err j) room (cut_file file k room)
+  turned j e = let g = refused_by (refusal_number j) e in (sym (ap (λ (x : FileResult). x.answer) g), sym (ap (λ (x : FileResult). x.room) g))
 
-  pub cut_short : length room < length file → Left (Refused 1) room (cut_file file k room)
-  cut_short h = turned 1 (refused_here _ _ (lt-ltb _ _ h))
+  pub cut_short : length room < length file → Left (Err Short) room (cut_file file k room)
+  cut_short h = turned Short (refused_here _ _ (lt-ltb _ _ h))
 
   module _ (long : length file ≤ length room) where
     abbrev rows : List (List ℕ)
@@ -118,7 +120,7 @@ module _ (file : List ℕ) (k : ℕ) (room : List ℕ) where
     past_room = refused_later _ _ (le-ltb _ _ long) ∙ ap refusal (sym (append_assoc (file_checks file) (built_checks rows) own))
 
     -- as a file or as a hierarchy
-    pub cut_turned : (j : ℕ) → refusal (file_checks file ++ built_checks rows) ≡ some j → Left (Refused j) room (cut_file file k room)
+    pub cut_turned : (j : Refusal) → refusal (file_checks file ++ built_checks rows) ≡ some (refusal_number j) → Left (Err j) room (cut_file file k room)
     cut_turned j e = turned j (past_room ∙ refusal_front (file_checks file ++ built_checks rows) own e)
 
     -- neither: 19, 20, or the shorter file
@@ -164,7 +166,7 @@ module _ (file : List ℕ) (n edge_count total : ℕ) (records edges places : Li
       (subst (λ (K : Hierarchy). Shaped K (file_records file)) (sym r.built)
       (shaped file (accepted file r.file_fine) (sym (ap (λ (l : List ℕ). every is_record (record_list l)) r.read) ∙ r.right) r.built_fine))
 
-  pub ready_cut : (k : ℕ) (room : List ℕ) (a : CutAnswer) {room' : List ℕ} → length file ≤ length room → Runs H opened k room a room' → Left a room' (cut_file file k room)
+  pub ready_cut : (k : ℕ) (room : List ℕ) (a : Result ℕ Refusal) {room' : List ℕ} → length file ≤ length room → Runs H opened k room a room' → Left a room' (cut_file file k room)
   ready_cut k room a {room'} long w =
       subst (λ (x : FileResult). Left a room' x)
       (ap (λ (K : Hierarchy). cut_run K opened k room) r.built ∙ ap (λ (l : List ℕ). cut_run (built_of (file_rows file)) l k room) r.read

@@ -1,5 +1,5 @@
 -- Terms of the contracts of private functions only: no definition of the paper is here. Assumes nothing.
-use Rattle.std.specs.Prelude.{◌≡◌, true, cond, not, List, [], ◌++◌, ℕ, ◌+◌, ◌-◌, ◌*◌, ◌/◌, ◌≤◌, eqb, length, take, drop}
+use Rattle.std.specs.Prelude.{◌≡◌, true, cond, not, List, [], ◌++◌, ℕ, ◌+◌, ◌-◌, ◌*◌, ◌/◌, ◌≤◌, eqb, length, take, drop, Result}
 use Rattle.lists.specs.Lists.{kept_if, every}
 use Rattle.lists.specs.Answer.{refused}
 use Rattle.blocks.specs.File.{FileResult, write_file}
@@ -7,9 +7,9 @@ use Rattle.parties.specs.Parties.{someone_in}
 use Rattle.locks.specs.Lent.{Hierarchy}
 use Rattle.runs.specs.Run.{Ran}
 use Rattle.replay.specs.Replay.{record_list, step_records, is_step, start_of, perform_all}
-use Rattle.shorter.specs.declared.CutAnswer.{CutAnswer}
+use Rattle.refusals.specs.declared.Refusal.{Refusal}
+use Rattle.refusals.specs.Refusals.{meaning}
 use Rattle.cutting.specs.Cut.{value_record, value_records, too_far, bytes_of}
-use Rattle.shorter.specs.Answers.{cut_meaning}
 
 -- the bytes of a node's value record, none where its value is zero
 abbrev pub value_bytes : (node value : ℕ) → List ℕ
@@ -52,13 +52,13 @@ cut_run H bytes k room =
     (write_file (kept_bytes H bytes k) (length (kept_bytes H bytes k) / 16) room))
 
 -- an answer and a room are what cutting, or writing, left
-abbrev pub Left : CutAnswer → List ℕ → FileResult → Type 0
-Left r room s = (cut_meaning r ≡ s.answer) × (room ≡ s.room)
+abbrev pub Left : Result ℕ Refusal → List ℕ → FileResult → Type 0
+Left r room s = (meaning r ≡ s.answer) × (room ≡ s.room)
 
 -- records written as a file
-abbrev pub Wrote : List ℕ → List ℕ → CutAnswer → List ℕ → Type 0
+abbrev pub Wrote : List ℕ → List ℕ → Result ℕ Refusal → List ℕ → Type 0
 Wrote bytes room r room' = Left r room' (write_file bytes (length bytes / 16) room)
 
 -- an opened file cut
-abbrev pub Runs : Hierarchy → List ℕ → ℕ → List ℕ → CutAnswer → List ℕ → Type 0
+abbrev pub Runs : Hierarchy → List ℕ → ℕ → List ℕ → Result ℕ Refusal → List ℕ → Type 0
 Runs H bytes k room r room' = Left r room' (cut_run H bytes k room)

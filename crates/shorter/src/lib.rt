@@ -3,54 +3,29 @@
 
 ghost use Rattle.std.specs.Prelude.{◌≡◌, true, ◌+◌, ◌*◌, ◌<◌, ◌≤◌, length, take};
 ghost use Rattle.lists.specs.Lists.{every, over};
+ghost use Rattle.refusals.specs.Refusals.{meaning};
 ghost use Rattle.octets.specs.Writes.{over_at};
-ghost use Rattle.locks.specs.Lent.{lent};
+ghost use Rattle.locks.specs.Lent.{lent, lent_in};
 ghost use Rattle.desk.specs.Desks.{fresh_desk};
 ghost use Rattle.replay.specs.Replay.{record_list, is_step, state_of, perform_all};
 ghost use Rattle.cutting.specs.Cut.{value_record, cut_file};
-ghost use Rattle.shorter.specs.Answers.{cut_meaning};
 ghost use Rattle.shorter.specs.Inner.{value_bytes, values_bytes, short_bytes, Wrote, Shaped, Runs};
 
-use blocks::{RECORD, WriteAnswer};
+use blocks::RECORD;
 use desk::Desk;
-use opening::OpenAnswer;
-
-// What cutting a file answers: the count of blocks of the shorter file.
-#[derive(Clone, Copy)]
-pub enum CutAnswer {
-    Cut(usize),
-    Refused(u8),
-}
+use hierarchy::EdgeTable;
+use locks::Lent;
+use opening::Opened;
+use refusals::Refusal;
 
 // Performs steps one after the other, from a fresh desk on, and hands back the last desk.
-fn perform_steps(
-    n: usize,
-    intervals: &[u16],
-    edges: &[u16],
-    edge_count: usize,
-    steps: &[u8],
-    values: &mut [u64],
-) -> Desk
+fn perform_steps(tables: &Lent<'_>, steps: &[u8], values: &mut [u64]) -> Desk
     requires { every is_step (record_list steps.now) ≡ true }
-    ensures { state_of (lent n intervals.now edges.now edge_count) result values.new ≡ (perform_all (state_of (lent n intervals.now edges.now edge_count) fresh_desk values.old) (record_list steps.now)).state }
+    ensures { state_of (lent_in tables.now) result values.new ≡ (perform_all (state_of (lent_in tables.now) fresh_desk values.old) (record_list steps.now)).state }
 {
-    let total = steps.len() / RECORD;
     let mut desk = Desk::fresh();
-    let mut i = 0;
-    while i < total {
-        let from = RECORD * i;
-        let to = from + RECORD;
-        let step = replay::perform(
-            desk,
-            n,
-            intervals,
-            edges,
-            edge_count,
-            &steps[from..to],
-            values,
-        );
-        desk = step.desk;
-        i += 1;
+    for bytes in steps.chunks_exact(RECORD) {
+        desk = replay::perform(desk, tables, bytes, values).desk;
     }
     desk
 }
@@ -86,10 +61,8 @@ fn put_values(values: &[u64], at: usize, room: &mut [u8]) -> usize
     ensures { (result ≡ at + length (values_bytes values.now)) × (room.new ≡ over_at at (values_bytes values.now) room.old) }
 {
     let mut to = at;
-    let mut node = 0;
-    while node < values.len() {
-        to = put_value(node, values[node], to, room);
-        node += 1;
+    for (node, &value) in values.iter().enumerate() {
+        to = put_value(node, value, to, room);
     }
     to
 }
@@ -114,103 +87,88 @@ fn write_short(
     from: usize,
     values: &[u64],
     room: &mut [u8],
-) -> CutAnswer
+) -> Result<usize, Refusal>
     requires head_in_bounds { (head ≤ length records.now) × (from ≤ length records.now) × (length values.now ≤ 256) }
     requires values_bound { (head + 16 * length values.now ≤ 63488) × (length (short_bytes records.now head from values.now) ≤ 63488) }
     ensures { Wrote (short_bytes records.now head from values.now) room.old result room.new }
 {
     let mut short = [0u8; opening::RECORD_BYTES];
     let bytes = put_short(records, head, from, values, &mut short);
-    let answer = blocks::write(&short[..bytes], bytes / RECORD, room);
-    match answer {
-        WriteAnswer::Blocks(k) => CutAnswer::Cut(k),
-        WriteAnswer::Refused(k) => CutAnswer::Refused(k),
-    }
+    blocks::write(&short[..bytes], bytes / RECORD, room)
 }
 
 // Cuts an opened file: its first k steps are performed, and the shorter file is written where nobody holds or waits behind them.
 fn cut_run(
-    n: usize,
-    intervals: &[u16],
-    edges: &[u16],
-    edge_count: usize,
+    tables: &Lent<'_>,
     records: &[u8],
     k: usize,
     values: &mut [u64],
     room: &mut [u8],
-) -> CutAnswer
-    requires { (length values.old ≡ n) × (n ≤ 256) × Shaped (lent n intervals.now edges.now edge_count) records.now }
-    ensures { Runs (lent n intervals.now edges.now edge_count) records.now k room.old result room.new }
+) -> Result<usize, Refusal>
+    requires { (length values.old ≡ tables.now.n) × (tables.now.n ≤ 256) × Shaped (lent_in tables.now) records.now }
+    ensures { Runs (lent_in tables.now) records.now k room.old result room.new }
 {
     let steps = opening::step_count(records);
     if steps < k {
-        return CutAnswer::Refused(19);
+        return Err(Refusal::FewSteps);
     }
     let total = records.len() / RECORD;
     let first = RECORD * (total - steps);
     let from = first + RECORD * k;
     replay::values(records, values);
-    let desk = perform_steps(
-        n,
-        intervals,
-        edges,
-        edge_count,
-        &records[first..from],
-        values,
-    );
-    let entries = desk.entries;
-    if parties::someone_in(entries) {
-        return CutAnswer::Refused(20);
+    let desk = perform_steps(tables, &records[first..from], values);
+    if parties::someone_in(desk.entries) {
+        return Err(Refusal::SomeoneIn);
     }
-    write_short(records, RECORD * (1 + edge_count), from, values, room)
-}
-
-// Cuts an opened file, from the places that it was opened into.
-fn cut_opened(
-    n: usize,
-    places: &[u16],
-    edges: &[u16],
-    edge_count: usize,
-    records: &[u8],
-    total: usize,
-    k: usize,
-    room: &mut [u8],
-) -> CutAnswer
-    requires n_bound { (n ≤ 256) × (2 * n ≤ length places.now) × (2 * edge_count ≤ length edges.now) × (16 * total ≤ length records.now) }
-    requires shaped { Shaped (lent n (take (2 * n) places.now) (take (2 * edge_count) edges.now) edge_count) (take (16 * total) records.now) }
-    ensures { Runs (lent n (take (2 * n) places.now) (take (2 * edge_count) edges.now) edge_count) (take (16 * total) records.now) k room.old result room.new }
-{
-    let low = 2 * n;
-    let ends = 2 * edge_count;
-    let bytes = RECORD * total;
-    let mut values = [0u64; hierarchy::NODES];
-    cut_run(
-        n,
-        &places[..low],
-        &edges[..ends],
-        edge_count,
-        &records[..bytes],
-        k,
-        &mut values[..n],
+    write_short(
+        records,
+        RECORD * (1 + tables.edges.count),
+        from,
+        values,
         room,
     )
 }
 
-// Cuts a file after its first k steps: the shorter file goes to the front of the room. A refusal changes nothing.
-pub fn cut(file: &[u8], k: usize, room: &mut [u8]) -> CutAnswer
-    ensures { (cut_meaning result ≡ (cut_file file.now k room.old).answer) × (room.new ≡ (cut_file file.now k room.old).room) }
+// Cuts an opened file, from the places that it was opened into.
+fn cut_opened(
+    opened: Opened,
+    places: &[u16],
+    edges: &[u16],
+    records: &[u8],
+    k: usize,
+    room: &mut [u8],
+) -> Result<usize, Refusal>
+    requires n_bound { (opened.n ≤ 256) × (2 * opened.n ≤ length places.now) × (2 * opened.edge_count ≤ length edges.now) × (16 * opened.total ≤ length records.now) }
+    requires shaped { Shaped (lent opened.n (take (2 * opened.n) places.now) (take (2 * opened.edge_count) edges.now) opened.edge_count) (take (16 * opened.total) records.now) }
+    ensures { Runs (lent opened.n (take (2 * opened.n) places.now) (take (2 * opened.edge_count) edges.now) opened.edge_count) (take (16 * opened.total) records.now) k room.old result room.new }
+{
+    let n = opened.n;
+    let low = 2 * n;
+    let intervals = &places[..low];
+    let count = opened.edge_count;
+    let ends = 2 * count;
+    let numbers = &edges[..ends];
+    let edges = EdgeTable { numbers, count };
+    let tables = Lent {
+        n,
+        intervals,
+        edges,
+    };
+    let bytes = RECORD * opened.total;
+    let mut values = [0u64; hierarchy::NODES];
+    cut_run(&tables, &records[..bytes], k, &mut values[..n], room)
+}
+
+// Cuts a file after its first k steps: the shorter file, as many blocks as are answered, goes to the front of the room. A refusal changes nothing.
+pub fn cut(file: &[u8], k: usize, room: &mut [u8]) -> Result<usize, Refusal>
+    ensures { (meaning result ≡ (cut_file file.now k room.old).answer) × (room.new ≡ (cut_file file.now k room.old).room) }
 {
     if room.len() < file.len() {
-        return CutAnswer::Refused(1);
+        return Err(Refusal::Short);
     }
     let mut records = [0u8; opening::RECORD_BYTES];
     let mut edges = [0u16; opening::EDGE_PLACES];
     let mut places = [0u16; opening::INTERVAL_PLACES];
-    let answer = opening::open_run(file, &mut records, &mut edges, &mut places);
-    match answer {
-        OpenAnswer::Refused(j) => CutAnswer::Refused(j),
-        OpenAnswer::Opened(n, edge_count, total) => {
-            cut_opened(n, &places, &edges, edge_count, &records, total, k, room)
-        }
-    }
+    let opened = opening::open_run(file, &mut records, &mut edges, &mut places)?;
+    cut_opened(opened, &places, &edges, &records, k, room)
 }

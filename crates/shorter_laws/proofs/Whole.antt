@@ -14,8 +14,7 @@ use Rattle.lists.specs.Answer.{done}
 use Rattle.lists.proofs.Bools.{bool, and_left, and_right}
 use Rattle.lists.proofs.Refusals.{refusal_none}
 use Rattle.octets.specs.Bytes.{byte, number4, bytes4, bytes8, zero_from}
-use Rattle.blocks.specs.declared.ReadStage.{ReadStage}
-use Rattle.blocks.specs.Record.{kind_of, size_in, value_node_in, value_in, begun, reached, record_right}
+use Rattle.blocks.specs.Record.{ReadStage, kind_of, size_in, value_node_in, value_in, begun, reached, record_right}
 use Rattle.blocks.specs.File.{blocks_of, whole_blocks, file_records, file_checks, leaving, blocks_for}
 use Rattle.block_laws.proofs.Pieces.{zeros_are, four}
 use Rattle.block_laws.proofs.ByKind.{one_of_eight, past_record, right_by_kind}

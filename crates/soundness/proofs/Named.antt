@@ -11,6 +11,7 @@ use Rattle.lists.specs.Lists.{any}
 use Rattle.lists.proofs.Bools.{bool, and_left, and_right}
 use Rattle.lists.proofs.Members.{In, head, tail, in_nil, in_cons}
 use Rattle.lists.proofs.Distinct.{any_in, any_found}
+use Rattle.naming.proofs.Gathering.{names_named}
 use Rattle.naming.specs.Names.{placed, insert, insert_all, ascending, rises_from, rises, names_of, named}
 
 rises_in : (y x : ℕ) (l : List ℕ) → y < x → rises_from y l ≡ true → rises_from y (insert x l) ≡ true
@@ -131,13 +132,4 @@ in_ascending x names i =
 
 -- the eight places hold up to eight names
 pub named_names : (names : List ℕ) → length names ≤ 8 → names_of (named names) ≡ names
-named_names [] h = refl
-named_names (a ∷ []) h = refl
-named_names (a ∷ b ∷ []) h = refl
-named_names (a ∷ b ∷ c ∷ []) h = refl
-named_names (a ∷ b ∷ c ∷ d ∷ []) h = refl
-named_names (a ∷ b ∷ c ∷ d ∷ e ∷ []) h = refl
-named_names (a ∷ b ∷ c ∷ d ∷ e ∷ f ∷ []) h = refl
-named_names (a ∷ b ∷ c ∷ d ∷ e ∷ f ∷ g ∷ []) h = refl
-named_names (a ∷ b ∷ c ∷ d ∷ e ∷ f ∷ g ∷ i ∷ []) h = refl
-named_names (a ∷ b ∷ c ∷ d ∷ e ∷ f ∷ g ∷ i ∷ j ∷ l) h = absurd (omega arith)
+named_names = names_named

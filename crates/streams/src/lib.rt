@@ -1,24 +1,30 @@
 // Whole buffers read and written over std's readers and writers, numbers written as text, and an argument's bytes: all in the room that the caller lends.
 #![tactic(auto)]
 
-ghost use Rattle.std.specs.Prelude.{◌≡◌, ◌≢◌, ◌<◌, ◌≤◌, ℕ, true, length, min, take, decimal, slice_index};
-ghost use Rattle.std.specs.Io.KnownBytes.{Appends, Consumes};
+ghost use Rattle.std.specs.Prelude.{◌≡◌, ◌≢◌, ◌<◌, ◌≤◌, ℕ, length, min, take, decimal, slice_index, IfSome, IfOk, IfErr, OnOk};
+ghost use Rattle.std.specs.Io.KnownBytes.{Appends, Consumes, Keeps};
 ghost use Rattle.streams.specs.Fronts.{AppendsFront, eight_digits};
 
 use itoa::Buffer;
 use memchr::memchr;
-use std::io::{Read, Write};
+use std::io;
+use std::io::{ErrorKind, Read, Write};
 use std::rt::Env;
 
-// How many bytes one write takes: none where it fails.
-fn write_some<W: Write>(out: &mut W, bytes: &[u8]) -> usize
-    ensures bound { result ≤ length bytes.now }
-    ensures front { Appends (W.contents out.old) (W.contents out.new) (take result bytes.now) }
+// Writes all of the bytes, or stops at the first write that takes nothing or fails, when a part of them may have been written.
+// Kept: std's `write_all` does not say that what an error leaves written is a front of the bytes, as clause `front` does.
+pub fn write_all<W: Write>(out: &mut W, bytes: &[u8]) -> io::Result<()>
+    ensures front { AppendsFront (W.contents out.old) (W.contents out.new) bytes.now }
+    ensures whole { OnOk result (Appends (W.contents out.old) (W.contents out.new) bytes.now) }
 {
-    match out.write(bytes) {
-        Ok(n) => n,
-        Err(_) => 0,
+    let mut done = 0;
+    while done < bytes.len() {
+        match out.write(&bytes[done..])? {
+            0 => return Err(ErrorKind::WriteZero.into()),
+            n => done += n,
+        }
     }
+    Ok(())
 }
 
 // How many bytes one read puts at the start of the room: none where it fails.
@@ -26,26 +32,7 @@ fn read_some<R: Read>(input: &mut R, room: &mut [u8]) -> usize
     ensures bound { result ≤ length room.new }
     ensures front { Consumes (R.remaining input.old) (R.remaining input.new) (take result room.new) }
 {
-    match input.read(room) {
-        Ok(n) => n,
-        Err(_) => 0,
-    }
-}
-
-// Writes all of the bytes and answers true, or stops at the first write that takes nothing or fails and answers false, when a part of them may have been written.
-pub fn write_all<W: Write>(out: &mut W, bytes: &[u8]) -> bool
-    ensures front { AppendsFront (W.contents out.old) (W.contents out.new) bytes.now }
-    ensures whole { result ≡ true → Appends (W.contents out.old) (W.contents out.new) bytes.now }
-{
-    let mut done = 0;
-    while done < bytes.len() {
-        let n = write_some(out, &bytes[done..]);
-        if n == 0 {
-            return false;
-        }
-        done += n;
-    }
-    true
+    input.read(room).unwrap_or(0)
 }
 
 // Reads until the room is full, the input ends or a read fails, and answers how many bytes it put at the start of the room.
@@ -64,23 +51,32 @@ pub fn read_full<R: Read>(input: &mut R, room: &mut [u8]) -> usize
     done
 }
 
-// Writes a number in decimal digits, and answers what `write_all` does.
-pub fn print_decimal<W: Write>(out: &mut W, n: u64) -> bool
+// Writes a number in decimal digits, as `write_all` writes.
+pub fn print_decimal<W: Write>(out: &mut W, n: u64) -> io::Result<()>
     ensures front { AppendsFront (W.contents out.old) (W.contents out.new) (decimal n) }
-    ensures whole { result ≡ true → Appends (W.contents out.old) (W.contents out.new) (decimal n) }
+    ensures whole { OnOk result (Appends (W.contents out.old) (W.contents out.new) (decimal n)) }
 {
     let mut digits = Buffer::new();
     write_all(out, digits.format(n).as_bytes())
 }
 
-// Writes a number in hexadecimal digits, in lower case, with zeros before it up to eight, and answers whether it was written whole.
-pub fn print_hex<W: Write>(out: &mut W, n: u32) -> bool
-    ensures { result ≡ true → Appends (W.contents out.old) (W.contents out.new) (eight_digits n) }
+// Writes a number in hexadecimal digits, in lower case, with zeros before it up to eight.
+pub fn print_hex<W: Write>(out: &mut W, n: u32) -> io::Result<()>
+    ensures { OnOk result (Appends (W.contents out.old) (W.contents out.new) (eight_digits n)) }
 {
-    match write!(out, "{n:08x}") {
-        Ok(()) => true,
-        Err(_) => false,
+    write!(out, "{n:08x}")
+}
+
+// Tells what was not written, where writing it failed.
+pub fn tell<W: Write>(errors: &mut W, written: io::Result<()>, words: &[u8]) -> io::Result<()>
+    ensures front { AppendsFront (W.contents errors.old) (W.contents errors.new) words.now }
+    ensures told { IfErr written (λ _. OnOk result (Appends (W.contents errors.old) (W.contents errors.new) words.now)) }
+    ensures silent { IfOk written (λ _. Keeps (W.contents errors.old) (W.contents errors.new)) }
+{
+    if written.is_err() {
+        return write_all(errors, words);
     }
+    Ok(())
 }
 
 // Where the line that begins at a place ends: at its newline, or at the end of the text, also for a place past that end.
@@ -99,12 +95,9 @@ pub fn line_end(text: &[u8], from: usize) -> usize
     }
 }
 
-// Puts argument k at the start of the room and answers its length: 0 where it is missing, or longer than the room.
-pub fn argument<E: Env>(env: &E, k: usize, room: &mut [u8]) -> usize
-    ensures { result ≤ length room.new }
+// Puts argument k at the start of the room and answers its length; none where it is missing, or longer than the room.
+pub fn argument<E: Env>(env: &E, k: usize, room: &mut [u8]) -> Option<usize>
+    ensures { IfSome result (λ n. n ≤ length room.new) }
 {
-    match env.arg(k, room) {
-        Ok(n) => n,
-        Err(_) => 0,
-    }
+    env.arg(k, room).ok()
 }

@@ -25,7 +25,7 @@ use Rattle.parties.specs.Sound.{sound_parties}
 use Rattle.sweeps.specs.Sweeps.{offer, sweep}
 use Rattle.grants.specs.Grants.{count_grants}
 use Rattle.desk.specs.declared.Desk.{Desk}
-use Rattle.desk.specs.declared.AddAnswer.TheVariants.{Added}
+use Rattle.std.specs.Prelude.{Ok}
 use Rattle.desk.specs.Steps.{granted, waits, enter_step, get_step, put_step, add_step, leave_step}
 use Rattle.runs.specs.Run.{whole, lend, restored, Call, enter, get, put, add, leave, Step, lent_to, entered, got, stored, added, left, State, start}
 use Rattle.runs.specs.Run.{after_enter, after_get, after_put, after_add, listed, after_leave, move_call, move, also_ran, run}
@@ -219,7 +219,7 @@ wiped = replicate 256 0 ++ (9 ∷ [])
 
 abbrev adds : (party number before after : ℕ) → List ℕ → Made
 adds party number before after its =
-    record { intervals = 1 ∷ 1 ∷ []; edges = []; result = add_result party 0 number (before ∷ []) its (record { desk = adders; answer = Added }) (after ∷ []) wiped }
+    record { intervals = 1 ∷ 1 ∷ []; edges = []; result = add_result party 0 number (before ∷ []) its (record { desk = adders; answer = Ok tt }) (after ∷ []) wiped }
 
 abbrev zero_first : List Made
 zero_first = adds 0 2 5 7 used ∷ adds 1 3 7 10 wiped ∷ []

@@ -1,5 +1,5 @@
 -- The pass over the waiters, one by one: what a turn of the loop leaves. Assumes nothing.
-use mathlib.Core.Path.{◌≡◌, refl, sym, ap, ◌∙◌}
+use mathlib.Core.Path.{◌≡◌, refl, sym, ap, subst, ◌∙◌}
 use mathlib.Core.List.{List, [], ◌∷◌, ◌++◌}
 use mathlib.Core.Bool.{Bool, true, false, not, ◌||◌}
 use Prim.Native.Nat.{ℕ, ◌+◌, ◌≤◌, ◌<◌}
@@ -14,13 +14,15 @@ use Rattle.locks.specs.declared.Lock.{Lock}
 use Rattle.locks.specs.declared.Stage.{Stage}
 use Rattle.locks.specs.declared.Stage.TheVariants.{Out, Waiting, Holding}
 use Rattle.parties.specs.declared.Entry.{Entry}
-use Rattle.parties.specs.Parties.{entry_of, stage_in, place_of, seated_at, meets_holder, meets_waiter}
-use Rattle.arrivals.specs.Arrivals.{queue_places}
+use Rattle.parties.specs.Parties.{entry_of, stage_in, meets_holder, meets_waiter}
+use Rattle.arrivals.specs.declared.Listed.{Listed}
+use Rattle.arrivals.specs.Arrivals.{list_of, nobody, pushed, Lists}
 use Rattle.sweeps.specs.Sweeps.{Sweep, stays_waiting, offer_if, offer_to, offer, sweep, sweep_of, leaving_of, Sweeps}
 use Rattle.sweeps.specs.Inner.{may_go}
 use Rattle.locks.specs.Stages.{held}
-use Rattle.arrivals.proofs.Queues.{places_take, places_push, kept_places}
-use Rattle.parties.proofs.Stages.{seated_stage}
+use borrow.Author.Tests.{ltb-true, ltb-false}
+use Rattle.arrivals.proofs.Queues.{kept_places, listed_take, lists_push, push_count}
+use Rattle.parties.proofs.Stages.{past_out}
 
 -- one waiter is taken: granted, or left waiting
 abbrev goes_on : Sweep → ℕ → Sweep
@@ -77,104 +79,82 @@ leaving_few entries places count party long =
     let none : length {A = ℕ} [] ≡ 0 = refl in
     omega (arith, none, sweep_granted (record { entries = set entries party (entry_of Out); stay = []; granted = [] }) others, kept_places (λ other. not (eqb other party)) places count long)
 
--- who may go stands at its own place
-goes_here : (entries : List Entry) (stay : List ℕ) (party at : ℕ) (s : Stage) → at ≡ place_of party → may_go entries stay (seated_at party s) ≡ true → at ≡ party
-goes_here entries stay party at s e may =
+-- who may go is one of the 32
+pub goes_within : (entries : List Entry) (stay : List ℕ) (party : ℕ) → length entries ≡ 32 → may_go entries stay (stage_in entries party) ≡ true → party < 32
+goes_within entries stay party long may =
     bool (ltb party 32)
-    (λ h. e ∙ rw h refl)
-    (λ h. not_both false (rw h at may) refl)
+    (λ e. ltb-true party 32 e)
+    (λ e. let over : 32 ≤ party = ltb-false party 32 e in
+    not_both false (ap (may_go entries stay) (past_out entries party (omega (arith, long))) ∙ may) refl)
 
 -- THE LOOP over the waiters l, at its place i, from the entries e₀
 module _ (e₀ : List Entry) (l : List ℕ) where
   abbrev pub passed : ℕ → Sweep
   passed i = sweep_of e₀ (take i l)
 
-  pub record Passing (entries : List Entry) (stay : List ℕ) (kept : ℕ) (granted : List ℕ) (gone i : ℕ) : Type 0 where
-    pub so_far : i ≤ length l
+  pub record Passing (entries : List Entry) (stay granted : Listed) (i : ℕ) : Type 0 where
     pub long : length entries ≡ 32
     pub left : entries ≡ (passed i).entries
-    pub stays : stay ≡ queue_places (passed i).stay
-    pub kept_all : kept ≡ length (passed i).stay
-    pub goes : granted ≡ queue_places (passed i).granted
-    pub gone_all : gone ≡ length (passed i).granted
-    pub parted : kept + gone ≡ i
+    pub stays : Lists stay (passed i).stay
+    pub goes : Lists granted (passed i).granted
+    pub parted : stay.count + granted.count ≡ i
 
-  pub passing_start : length e₀ ≡ 32 → Passing e₀ (queue_places []) 0 (queue_places []) 0 0
+  pub passing_start : length e₀ ≡ 32 → Passing e₀ nobody nobody 0
   unfolding sweep
-  passing_start long = record { so_far = omega arith; long = long; left = refl; stays = refl; kept_all = refl; goes = refl; gone_all = refl; parted = refl }
+  passing_start long = record { long = long; left = refl; stays = (refl, refl); goes = (refl, refl); parted = refl }
 
-  module _ (few : length l ≤ 32) (entries : List Entry) (stay : List ℕ) (kept : ℕ) (granted : List ℕ) (gone i : ℕ) (k : Passing entries stay kept granted gone i) where
+  module _ (few : length l ≤ 32) (entries : List Entry) (stay granted : Listed) (i : ℕ) (k : Passing entries stay granted i) where
     abbrev now-at : Sweep
     now-at = passed i
 
-    -- what stays waiting is at the first places
-    stay_is : take kept stay ≡ now-at.stay
-    stay_is =
-        ap (λ (n : ℕ). take n stay) k.kept_all ∙ ap (take (length now-at.stay)) k.stays
-        ∙ places_take now-at.stay (omega (arith, k.kept_all, k.parted, k.so_far, few))
-
-    module _ (h : i < length l) (party at : ℕ) (at-l : party ≡ get_or l i 0) (at-is : at ≡ place_of party) (s : Stage) (is : s ≡ seated_at party (stage_in entries at)) where
+    module _ (h : i < length l) (party : ℕ) (at-l : party ≡ get_or l i 0) (s : Stage) (is : s ≡ stage_in entries party) where
       -- what was read is the party's stage
       same : s ≡ stage_in now-at.entries party
-      same = is ∙ seated_stage entries party at k.long at-is ∙ ap (λ (x : List Entry). stage_in x party) k.left
+      same = is ∙ ap (λ (x : List Entry). stage_in x party) k.left
 
-      asked : may_go now-at.entries now-at.stay (stage_in now-at.entries party) ≡ may_go entries (take kept stay) s
+      -- what stays waiting is what the list says
+      asked : may_go now-at.entries now-at.stay (stage_in now-at.entries party) ≡ may_go entries (list_of stay) s
       asked =
           ap (may_go now-at.entries now-at.stay) (sym same) ∙ ap (λ (x : List Entry). may_go x now-at.stay s) (sym k.left)
-          ∙ ap (λ (t : List ℕ). may_go entries t s) (sym stay_is)
+          ∙ ap (λ (t : List ℕ). may_go entries t s) (sym (listed_take stay now-at.stay k.stays (let (p, q) = k.stays in omega (arith, k.parted, q))))
 
       one_more : passed (i + 1) ≡ offer now-at party
       one_more =
           ap (sweep_of e₀) (take_step l i 0 h) ∙ sweep_snoc _ (take i l) (get_or l i 0) ∙ ap (offer now-at) (sym at-l)
 
-      pub passing_goes : (h' : Stage) → h' ≡ held s → may_go entries (take kept stay) s ≡ true
-          → Passing (set entries at (entry_of h')) stay kept (set granted gone party) (gone + 1) (i + 1)
-      passing_goes h' eh may =
+      pub passing_goes : (h' : Stage) → h' ≡ held s → may_go entries (list_of stay) s ≡ true → (granted' : Listed) → granted' ≡ pushed granted party
+          → Passing (set entries party (entry_of h')) stay granted' (i + 1)
+      passing_goes h' eh may granted' e =
           let on : passed (i + 1) ≡ goes_on now-at party = one_more ∙ offer_goes now-at party (asked ∙ may) in
-          let place : at ≡ party = goes_here entries (take kept stay) party at (stage_in entries at) at-is (ap (may_go entries (take kept stay)) (sym is) ∙ may) in
-          record {
-            so_far = omega arith;
-            long = length-set entries at (entry_of h') ∙ k.long;
+          let (p, q) = k.goes in
+          rw e (record {
+            long = length-set entries party (entry_of h') ∙ k.long;
             left =
-                ap (λ (n : ℕ). set entries n (entry_of h')) place
-                ∙ ap (λ (x : Stage). set entries party (entry_of x)) (eh ∙ ap held same)
+                ap (λ (x : Stage). set entries party (entry_of x)) (eh ∙ ap held same)
                 ∙ ap (λ (t : List Entry). set t party (entry_of (held (stage_in now-at.entries party)))) k.left
                 ∙ ap (λ (x : Sweep). x.entries) (sym on);
-            stays = k.stays ∙ ap (λ (x : Sweep). queue_places x.stay) (sym on);
-            kept_all = k.kept_all ∙ ap (λ (x : Sweep). length x.stay) (sym on);
-            goes =
-                ap (λ (n : ℕ). set granted n party) k.gone_all
-                ∙ ap (λ (t : List ℕ). set t (length now-at.granted) party) k.goes
-                ∙ places_push now-at.granted party (omega (arith, k.gone_all, k.parted))
-                ∙ ap (λ (x : Sweep). queue_places x.granted) (sym on);
-            gone_all = omega (arith, k.gone_all, ap (λ (x : Sweep). length x.granted) on, length-append now-at.granted (party ∷ []));
-            parted = omega (arith, k.parted);
-          }
+            stays = subst (λ (x : Sweep). Lists stay x.stay) (sym on) k.stays;
+            goes = subst (λ (x : Sweep). Lists (pushed granted party) x.granted) (sym on) (lists_push granted now-at.granted party (omega (arith, q, k.parted)) k.goes);
+            parted = omega (arith, k.parted, push_count granted party (omega (arith, k.parted)));
+          })
 
-      pub passing_stays : may_go entries (take kept stay) s ≡ false → Passing entries (set stay kept party) (kept + 1) granted gone (i + 1)
-      passing_stays may =
+      pub passing_stays : may_go entries (list_of stay) s ≡ false → (stay' : Listed) → stay' ≡ pushed stay party → Passing entries stay' granted (i + 1)
+      passing_stays may stay' e =
           let on : passed (i + 1) ≡ stays_waiting now-at party = one_more ∙ offer_stays now-at party (asked ∙ may) in
-          record {
-            so_far = omega arith;
+          let (p, q) = k.stays in
+          rw e (record {
             long = k.long;
             left = k.left ∙ ap (λ (x : Sweep). x.entries) (sym on);
-            stays =
-                ap (λ (n : ℕ). set stay n party) k.kept_all
-                ∙ ap (λ (t : List ℕ). set t (length now-at.stay) party) k.stays
-                ∙ places_push now-at.stay party (omega (arith, k.kept_all, k.parted))
-                ∙ ap (λ (x : Sweep). queue_places x.stay) (sym on);
-            kept_all = omega (arith, k.kept_all, ap (λ (x : Sweep). length x.stay) on, length-append now-at.stay (party ∷ []));
-            goes = k.goes ∙ ap (λ (x : Sweep). queue_places x.granted) (sym on);
-            gone_all = k.gone_all ∙ ap (λ (x : Sweep). length x.granted) (sym on);
-            parted = omega (arith, k.parted);
-          }
+            stays = subst (λ (x : Sweep). Lists (pushed stay party) x.stay) (sym on) (lists_push stay now-at.stay party (omega (arith, q, k.parted)) k.stays);
+            goes = subst (λ (x : Sweep). Lists granted x.granted) (sym on) k.goes;
+            parted = omega (arith, k.parted, push_count stay party (omega (arith, k.parted)));
+          })
 
-    pub passing_end : length l ≤ i → (l' : List ℕ) → l ≡ l'
-        → Sweeps (sweep_of e₀ l') (record { entries = entries; stay = record { places = stay; count = kept }; granted = record { places = granted; count = gone } })
+    pub passing_end : length l ≤ i → (l' : List ℕ) → l ≡ l' → Sweeps (sweep_of e₀ l') (record { entries = entries; stay = stay; granted = granted })
     passing_end h l' q =
         let e : now-at ≡ sweep_of e₀ l' = ap (sweep_of e₀) (take_all i l h ∙ q) in
         record {
           entries = k.left ∙ ap (λ (x : Sweep). x.entries) e;
-          stay = (k.stays ∙ ap (λ (x : Sweep). queue_places x.stay) e, k.kept_all ∙ ap (λ (x : Sweep). length x.stay) e);
-          granted = (k.goes ∙ ap (λ (x : Sweep). queue_places x.granted) e, k.gone_all ∙ ap (λ (x : Sweep). length x.granted) e);
+          stay = subst (λ (x : Sweep). Lists stay x.stay) e k.stays;
+          granted = subst (λ (x : Sweep). Lists granted x.granted) e k.goes;
         }

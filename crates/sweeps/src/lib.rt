@@ -1,7 +1,7 @@
 // The pass over the waiters: a party leaves, and the others are taken once in arrival order.
 #![tactic(auto)]
 
-ghost use Rattle.std.specs.Prelude.{◌≡◌, ◌||◌, ◌≤◌, length, take, set};
+ghost use Rattle.std.specs.Prelude.{◌≡◌, set};
 ghost use Rattle.arrivals.specs.Arrivals.{list_of};
 ghost use Rattle.parties.specs.Parties.{entry_of, meets_holder, meets_waiter};
 ghost use Rattle.sweeps.specs.Sweeps.{sweep_of, leaving_of, Sweeps};
@@ -20,61 +20,31 @@ pub struct Swept {
 }
 
 // Whether a lock conflicts with a holder.
-fn meets_holder(entries: [Entry; PARTIES], l: Lock) -> bool
-    ensures { result ≡ meets_holder entries l }
+fn meets_holder(entries: &[Entry; PARTIES], l: Lock) -> bool
+    ensures { result ≡ meets_holder entries.now l }
 {
-    let mut i = 0;
-    while i < PARTIES {
-        let e = entries[i];
-        let s = e.stage;
-        if locks::against_holder(l, s) {
-            return true;
-        }
-        i += 1;
-    }
-    false
+    entries
+        .iter()
+        .any(|entry| locks::against_holder(l, entry.stage))
 }
 
-// Whether a lock conflicts with a waiter at the first k places of an arrival list.
-fn meets_waiter(entries: [Entry; PARTIES], queue: &[u8], k: usize, l: Lock) -> bool
-    requires { k ≤ length queue.now }
-    ensures { result ≡ meets_waiter entries (take k queue.now) l }
+// Whether a lock conflicts with a waiter of an arrival list.
+fn meets_waiter(entries: &[Entry; PARTIES], list: &Listed, l: Lock) -> bool
+    ensures { result ≡ meets_waiter entries.now (list_of list.now) l }
 {
-    let mut i = 0;
-    while i < k {
-        let party = arrivals::party_at(queue, i);
-        let at = parties::place(party);
-        let e = entries[at];
-        let here = e.stage;
-        let s = parties::seated(party, here);
-        if locks::against_waiter(l, s) {
-            return true;
-        }
-        i += 1;
-    }
-    false
+    list.places[..list.count.min(PARTIES)].iter().any(|party| locks::against_waiter(
+        l,
+        parties::stage(entries, usize::from(*party)),
+    ))
 }
 
-// Whether a lock conflicts with a holder or a waiter at the first k places of an arrival list.
-fn meets(entries: [Entry; PARTIES], queue: &[u8], k: usize, l: Lock) -> bool
-    requires { k ≤ length queue.now }
-    ensures { result ≡ meets_holder entries l || meets_waiter entries (take k queue.now) l }
-{
-    if meets_holder(entries, l) {
-        return true;
-    }
-    meets_waiter(entries, queue, k, l)
-}
-
-// Whether a party at this stage waits and is granted, with those at the first k places still waiting before it.
-fn may_go(entries: [Entry; PARTIES], stay: &[u8], k: usize, s: Stage) -> bool
-    requires { k ≤ length stay.now }
-    ensures { result ≡ may_go entries (take k stay.now) s }
+// Whether a party at this stage waits and is granted, with those of an arrival list still waiting before it.
+fn may_go(entries: &[Entry; PARTIES], stay: &Listed, s: Stage) -> bool
+    ensures { result ≡ may_go entries.now (list_of stay.now) s }
 {
     match s {
-        Stage::Out => false,
-        Stage::Waiting(l) => !meets(entries, stay, k, l),
-        Stage::Holding(_) => false,
+        Stage::Waiting(l) => !meets_holder(entries, l) && !meets_waiter(entries, stay, l),
+        Stage::Out | Stage::Holding(_) => false,
     }
 }
 
@@ -82,44 +52,25 @@ fn may_go(entries: [Entry; PARTIES], stay: &[u8], k: usize, s: Stage) -> bool
 fn sweep(entries: [Entry; PARTIES], list: Listed) -> Swept
     ensures { Sweeps (sweep_of entries (list_of list)) result }
 {
-    let queue = list.places;
-    let end = arrivals::cut(list.count);
     let mut next = entries;
-    let mut stay = [0u8; PARTIES];
-    let mut kept: usize = 0;
-    let mut granted = [0u8; PARTIES];
-    let mut gone: usize = 0;
-    let mut i: usize = 0;
-    while i < end {
-        let party = queue[i];
-        i += 1;
-        let at = parties::place(party as usize);
-        let e = next[at];
-        let here = e.stage;
-        let s = parties::seated(party as usize, here);
-        if may_go(next, &stay, kept, s) {
+    let mut stay = Listed::none();
+    let mut granted = Listed::none();
+    for &party in &list.places[..list.count.min(PARTIES)] {
+        let at = usize::from(party);
+        let s = parties::stage(&next, at);
+        if may_go(&next, &stay, s) {
             next[at] = Entry {
                 stage: locks::hold(s),
             };
-            granted[gone] = party;
-            gone += 1;
+            granted.push(party);
         } else {
-            stay[kept] = party;
-            kept += 1;
+            stay.push(party);
         }
     }
-    let waiting = Listed {
-        places: stay,
-        count: kept,
-    };
-    let left = Listed {
-        places: granted,
-        count: gone,
-    };
     Swept {
         entries: next,
-        stay: waiting,
-        granted: left,
+        stay,
+        granted,
     }
 }
 
@@ -138,7 +89,7 @@ fn with_out(entries: [Entry; PARTIES], party: usize) -> [Entry; PARTIES]
 pub fn leaving(entries: [Entry; PARTIES], list: Listed, party: usize) -> Swept
     ensures { Sweeps (leaving_of entries (list_of list) party) result }
 {
-    let others = arrivals::without(list, party);
+    let others = list.without(party);
     let rest = with_out(entries, party);
     sweep(rest, others)
 }

@@ -1,14 +1,17 @@
 -- Bytes put into a text one behind the other, as far as they fit; the digits of a number. Assumes nothing.
 use mathlib.Core.Path.{◌≡◌, refl, sym, ap, ◌∙◌}
 use mathlib.Core.Bool.{Bool, true, false, cond}
-use mathlib.Core.List.{List, [], ◌∷◌, ◌++◌}
+use mathlib.Core.List.{List, [], ◌∷◌, ◌++◌, append_assoc}
 use Prim.Native.Nat.{ℕ, zero, suc, ◌+◌, ◌-◌, ◌/◌, ◌%◌, ◌^◌, ◌≤◌, ◌<◌, min}
 use native.Mathlib.Nat.{not-suc-le-zero, add-zero, pow-zero, pow-suc}
 use native.Mathlib.Numerals.{add-one}
 use native.Mathlib.Omega.{arith}
 use lib.Dec.{leb, ltb}
 use borrow.Author.Tests.{lt-ltb, le-ltb, leb-true, leb-false, ltb-true}
-use lib.ListN.{length, drop, get_or, set, length-append, length-set, drop_of_length-le}
+use lib.ListN.{length, take, drop, get_or, set, length-append, length-set, drop_of_length-le}
+use lib.Seq.{length-take-le, drop-drop}
+use borrow.Rule.Slice.PartMut.{put_mid, post_of}
+use Rattle.std.proofs.lemmas.List.{take-append-drop}
 use Rattle.std.specs.Prelude.{decimal as std_decimal}
 use Rattle.std.proofs.lemmas.Fmt.{AppendsLastDigit, decimal_from_appends, length-decimal-le_succ}
 use Rattle.octets.specs.Writes.{over_at}
@@ -37,17 +40,6 @@ puts_as at text e p = p ∙ ap (λ (t : List ℕ). put t (page_of text at)) e
 -- WHAT IS LEFT to be put gives all that was to be put
 pub put_left : (xs ys : List ℕ) (at : ℕ) (text : List ℕ) {text' : List ℕ} {r : ℕ} {w : Page} → Puts at xs text text' r → put (xs ++ ys) (page_of text at) ≡ w → put ys (page_of text' r) ≡ w
 put_left xs ys at text p e = ap (put ys) p ∙ sym (put_two xs ys (page_of text at)) ∙ e
-
--- one byte of it
-pub put_turn : (bytes text : List ℕ) (at i : ℕ) → i < length bytes → at + i < length text
-    → put (drop (i + 1) bytes) (page_of (set text (at + i) (get_or bytes i 0)) (at + (i + 1))) ≡ put (drop i bytes) (page_of text (at + i))
-unfolding put
-put_turn bytes text at i h room =
-    let x : ℕ = get_or bytes i 0 in
-    let next : at + (i + 1) ≡ suc (at + i) = omega arith in
-    ap (λ (k : ℕ). put (drop (i + 1) bytes) (page_of (set text (at + i) x) k)) next
-    ∙ ap (λ (b : Bool). put (drop (i + 1) bytes) (cond b (page_of (set text (at + i) x) (suc (at + i))) (page_of text (at + i)))) (sym (lt-ltb (at + i) (length text) room))
-    ∙ ap (λ (l : List ℕ). put l (page_of text (at + i))) (sym (drop_step bytes i 0 refl h))
 
 -- a full text stays as it is
 put_full : (xs text : List ℕ) (at : ℕ) → length text ≤ at → put xs (page_of text at) ≡ page_of text at
@@ -98,6 +90,28 @@ put_fits (x ∷ xs) text at h =
     ∙ put_fits xs (set text at x) (suc at) (omega (arith, length-set text at x))
     ∙ ap (λ (t : List ℕ). page_of t (suc at + length xs)) turn
     ∙ ap (page_of (over_at at (x ∷ xs) text)) next
+
+-- a part of the text that was written whole
+pub part_over : (at k : ℕ) (xs text : List ℕ) {part : List ℕ} → part ≡ xs → k ≡ length xs → put_mid at k text part ≡ over_at at xs text
+unfolding over_at
+part_over at k xs text e n =
+    ap (λ (l : List ℕ). take at text ++ (l ++ post_of at k text)) e
+    ∙ ap (λ (l : List ℕ). take at text ++ (xs ++ l)) (drop-drop k at text ∙ ap (λ (m : ℕ). drop (at + m) text) n)
+    ∙ sym (append_assoc (take at text) xs (drop (at + length xs) text))
+
+-- and of any bytes the first, as many as fit
+pub put_front : (bytes text : List ℕ) (at fits : ℕ) {text' : List ℕ} → fits ≡ min (length bytes) (length text - at) → at + fits ≤ length text → length text' ≡ length text → text' ≡ over_at at (take fits bytes) text
+    → page_of text' (at + fits) ≡ put bytes (page_of text at)
+unfolding over_at
+put_front bytes text at fits {text'} e room long w =
+    let first : List ℕ = take fits bytes in
+    let n : length first ≡ fits = length-take-le fits bytes (omega arith) in
+    put_end bytes text' at fits (omega arith)
+    ∙ ap (λ (t : List ℕ). put (drop fits bytes) (page_of t (at + fits))) w
+    ∙ ap (λ (k : ℕ). put (drop fits bytes) (page_of (over_at at first text) (at + k))) (sym n)
+    ∙ ap (put (drop fits bytes)) (sym (put_fits first text at (omega arith)))
+    ∙ sym (put_two first (drop fits bytes) (page_of text at))
+    ∙ ap (λ (l : List ℕ). put l (page_of text at)) (take-append-drop fits bytes)
 
 -- THE DIGITS of a number: one, or the last behind the others
 last_digit : AppendsLastDigit decimal_of

@@ -1,8 +1,7 @@
 // The lines of a listing and of the report, put into lent bytes as far as they fit: numbers, words, a step's line, the lines after the steps.
 #![tactic(auto)]
 
-ghost use Rattle.std.specs.Prelude.{◌≡◌, ◌++◌, ◌-◌, take, get_or};
-ghost use Rattle.lists.specs.Lists.{one};
+ghost use Rattle.std.specs.Prelude.{◌≡◌, ◌++◌, take, count_by};
 ghost use Rattle.lists.specs.Answer.{refused};
 ghost use Rattle.replay.specs.Answers.{step_meaning};
 ghost use Rattle.locks.specs.Stages.{is_holding};
@@ -11,30 +10,22 @@ ghost use Rattle.texts.specs.Text.{decimal, space, left_word, spaced, answer_tex
 ghost use Rattle.texts.specs.Lines.{step_line, end_line, line_if_granted, party_lines, end_lines, listing, report_line};
 ghost use Rattle.texts.specs.Pages.{Puts};
 
-use arrivals::PARTIES;
 use desk::Desk;
 use itoa::Buffer;
 use locks::Stage;
-use parties::Entry;
 use replay::Outcome;
 
-// How many places a text of so many bytes has from place `at` on.
-fn places_left(at: usize, all: usize) -> usize
-    ensures { result ≡ all - at }
-{
-    if at < all { all - at } else { 0 }
-}
+// Kept: each function puts its bytes as far as they fit into lent bytes, as the definition `Puts` says, and answers the place behind them. Display's `write!` has no such promise.
 
 // Puts the bytes into the text from place `at` on, as far as they fit, and answers the place behind them.
 fn put_bytes(bytes: &[u8], at: usize, text: &mut [u8]) -> usize
     ensures { Puts at bytes.now text.old text.new result }
 {
-    let fits = octets::least(bytes.len(), places_left(at, text.len()));
-    let mut i = 0;
-    while i < fits {
-        text[at + i] = bytes[i];
-        i += 1;
+    let fits = bytes.len().min(text.len().saturating_sub(at));
+    if fits == 0 {
+        return at;
     }
+    text[at..at + fits].copy_from_slice(&bytes[..fits]);
     at + fits
 }
 
@@ -54,33 +45,23 @@ fn put_word_number(word: &[u8], n: u64, at: usize, text: &mut [u8]) -> usize
     put_number(n, behind, text)
 }
 
-// Puts the party at place i, a space before it.
-fn put_party(parties: &[u8], i: usize, at: usize, text: &mut [u8]) -> usize
-    ensures { Puts at (space ++ decimal (get_or parties.now i 0)) text.old text.new result }
+// Puts the parties, a space before each.
+fn put_parties(parties: &[u8], at: usize, text: &mut [u8]) -> usize
+    ensures { Puts at (spaced parties.now) text.old text.new result }
 {
-    put_word_number(b" ", octets::byte(parties, i) as u64, at, text)
-}
-
-// Puts the first parties, a space before each.
-fn put_parties(parties: &[u8], count: usize, at: usize, text: &mut [u8]) -> usize
-    ensures { Puts at (spaced (take count parties.now)) text.old text.new result }
-{
-    let given = octets::least(count, parties.len());
     let mut here = at;
-    let mut i = 0;
-    while i < given {
-        here = put_party(parties, i, here, text);
-        i += 1;
+    for party in parties {
+        here = put_word_number(b" ", u64::from(*party), here, text);
     }
     here
 }
 
-// Puts what a leave answered: the word, and the parties.
+// Puts what a leave answered: the word, and the first parties.
 fn put_left(parties: &[u8], count: usize, at: usize, text: &mut [u8]) -> usize
     ensures { Puts at (left_word ++ spaced (take count parties.now)) text.old text.new result }
 {
     let behind = put_bytes(b"left", at, text);
-    put_parties(parties, count, behind, text)
+    put_parties(&parties[..count.min(parties.len())], behind, text)
 }
 
 // Puts a step's answer.
@@ -94,7 +75,7 @@ fn put_answer(outcome: Outcome, parties: &[u8], at: usize, text: &mut [u8]) -> u
         Outcome::Stored => put_bytes(b"stored", at, text),
         Outcome::Added => put_bytes(b"added", at, text),
         Outcome::Left(count) => put_left(parties, count, at, text),
-        Outcome::Refused(k) => put_word_number(b"refused ", k as u64, at, text),
+        Outcome::Refused(k) => put_word_number(b"refused ", u64::from(k), at, text),
     }
 }
 
@@ -121,30 +102,14 @@ pub fn put_line(
     put_bytes(b"\n", behind, text)
 }
 
-// 1 where a party is holding, and 0 where it is not.
-fn holding(entry: Entry) -> usize
-    ensures { result ≡ one (is_holding entry.stage) }
-{
-    let stage = entry.stage;
-    match stage {
-        Stage::Out => 0,
-        Stage::Waiting(_l) => 0,
-        Stage::Holding(_l) => 1,
-    }
-}
-
 // The count of holders.
 fn holders(desk: Desk) -> usize
-    ensures { result ≡ holders_at desk }
+    ensures { result ≡ count_by (λ e. is_holding e.stage) desk.entries }
 {
-    let mut count = 0;
-    let mut i = 0;
-    while i < PARTIES {
-        let e = desk.entries[i];
-        count += holding(e);
-        i += 1;
-    }
-    count
+    desk.entries
+        .iter()
+        .filter(|entry| matches!(entry.stage, Stage::Holding(_)))
+        .count()
 }
 
 // Puts the line `end`: holders, waiters and the sum of the grants.
@@ -165,7 +130,7 @@ fn put_party_line(party: usize, count: u32, at: usize, text: &mut [u8]) -> usize
         return at;
     }
     let first = put_word_number(b"party ", party as u64, at, text);
-    let second = put_word_number(b" ", count as u64, first, text);
+    let second = put_word_number(b" ", u64::from(count), first, text);
     put_bytes(b"\n", second, text)
 }
 
@@ -174,10 +139,8 @@ fn put_party_lines(grants: &[u32], at: usize, text: &mut [u8]) -> usize
     ensures { Puts at (party_lines 0 grants.now) text.old text.new result }
 {
     let mut here = at;
-    let mut party = 0;
-    while party < grants.len() {
-        here = put_party_line(party, grants[party], here, text);
-        party += 1;
+    for (party, count) in grants.iter().enumerate() {
+        here = put_party_line(party, *count, here, text);
     }
     here
 }
@@ -186,17 +149,21 @@ fn put_party_lines(grants: &[u32], at: usize, text: &mut [u8]) -> usize
 pub fn put_end(desk: Desk, at: usize, text: &mut [u8]) -> usize
     ensures { Puts at (end_lines (holders_at desk) desk.waiting desk.grants) text.old text.new result }
 {
-    let waiting = desk.waiting;
-    let grants = desk.grants;
-    let behind = put_end_line(holders(desk), waiting, grants::all_grants(grants), at, text);
-    put_party_lines(&grants, behind, text)
+    let behind = put_end_line(
+        holders(desk),
+        desk.waiting,
+        grants::all_grants(desk.grants),
+        at,
+        text,
+    );
+    put_party_lines(&desk.grants, behind, text)
 }
 
 // Puts the one line of a refused file or hierarchy.
 pub fn put_refused(k: u8, text: &mut [u8]) -> usize
     ensures { Puts 0 (listing (refused k)) text.old text.new result }
 {
-    let behind = put_word_number(b"refused ", k as u64, 0, text);
+    let behind = put_word_number(b"refused ", u64::from(k), 0, text);
     put_bytes(b"\n", behind, text)
 }
 

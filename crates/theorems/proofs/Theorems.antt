@@ -20,8 +20,7 @@ use Rattle.intervals.specs.Intervals.{low_of, high_of, interval_table}
 use Rattle.intervals.specs.Build.{build_step}
 use Rattle.covers.specs.declared.Interval.{Interval}
 use Rattle.covers.specs.Cover.{low_at, high_at, interval_at, call_interval, contains, width, closest, cover_of}
-use Rattle.blocks.specs.declared.ReadStage.{ReadStage}
-use Rattle.blocks.specs.Record.{kind_of, faulty}
+use Rattle.blocks.specs.Record.{ReadStage, kind_of, faulty}
 use Rattle.blocks.specs.Block.{after_record}
 use Rattle.block_laws.proofs.ByKind.{one_of_eight, ordered, in_turn, past_record}
 use Rattle.block_laws.proofs.ByKind as kinds-spelt
@@ -40,7 +39,8 @@ use Rattle.grants.specs.Grants.{no_grants, count_grants}
 use Rattle.desk.specs.declared.Desk.{Desk}
 use Rattle.desk.specs.Desks.{fresh_desk, stage_at, queue_of}
 use Rattle.desk.specs.Sound.{sound_desk}
-use Rattle.desk.specs.declared.EnterStep.{EnterStep}
+use Rattle.desk.specs.declared.EnterAnswer.{EnterAnswer}
+use Rattle.desk.specs.declared.Step.{Step as DeskStep}
 use Rattle.desk.specs.declared.EnterAnswer.TheVariants.{Waits}
 use Rattle.desk.specs.Steps.{granted, waits as waiting, enter_refusal, enter_step, step_checks, values_short, get_step, put_step, add_step, leave_step}
 use Rattle.runs.specs.Run.{Lending, get as get-call, put as put-call, add as add-call, Step, lent_to, Event, entered as entered-with, left as left-with, State, start, move_call, move, Ran, run}
@@ -104,7 +104,8 @@ use Rattle.swaps.proofs.Accesses as accessed
 use Rattle.swaps.proofs.Swaps as swapped
 use Rattle.swaps.proofs.Hosts as own-calls
 use Rattle.swaps.proofs.Shams as sham-swaps
-use Rattle.opening.specs.declared.OpenAnswer.TheVariants.{Opened}
+use Rattle.std.specs.Prelude.{Ok}
+use Rattle.opening.specs.declared.Opened.{Opened}
 use Rattle.opening.specs.Opening.{open_file}
 use Rattle.texts.specs.Lines.{step_lines, end_line, party_line, party_lines, end_lines, listing as listing_of}
 use Rattle.lines.specs.Pieces.{written_of, in_pieces, parts_in}
@@ -322,8 +323,9 @@ program_listing : (file records edges places text : List ℕ) (n count total : �
     ≡ listing_of (run_file file)
 program_listing file records edges places text n count total l₁ l₂ l₃ long e bytes =
     let o = open_file file records edges places in
+    let opened : Opened = record { n = n; edge_count = count; total = total } in
     parts.program_listing file n count total o.records o.edges o.places text
-    (opens.opened_ready file records edges places (Opened n count total) l₁ l₂ l₃ (record { answer = sym e; records_after = refl; edges_after = refl; places_after = refl }) n count total refl)
+    (opens.opened_ready file records edges places (Ok opened) l₁ l₂ l₃ (record { answer = sym e; records_after = refl; edges_after = refl; places_after = refl }) opened refl)
     bytes long
 
 -- DEMAND 3. What it claims of events, from these values at the start to those after: the values after are those after performing the book's row; the value
@@ -1000,7 +1002,7 @@ all_called d (c ∷ cs) (m, k) = (met c.tables d [] c.result m, all_called (desk
 -- the enter's own does, and says `Waits`: by the answers of these very calls, where the visits ahead have left the party holds, unless it left; and while it does not hold, and has not left, fewer
 -- than 31 of them have
 results_pass_nobody : (K : Hierarchy) (d : Desk) (p : ℕ) (mode : Mode) (names : List ℕ) (name_count : ℕ) → length d.entries ≡ 32 → length d.queue ≡ 32
-    → (r : EnterStep) → Enters r (enter_step K d p mode names name_count) → r.answer ≡ Waits → (calls : List HostCall) → AnyContracts r.desk calls
+    → (r : DeskStep EnterAnswer) → Enters r (enter_step K d p mode names name_count) → r.answer ≡ Waits → (calls : List HostCall) → AnyContracts r.desk calls
     → visit_left (told_back calls) p ≡ false → let lock = lock_for K mode (take name_count names) in let last = desk_after r.desk calls in
     (((q : ℕ) → In q (ahead d) → visit_left (told_back calls) q ≡ true) → stage_at last p ≡ Holding lock)
     × ((stage_at last p ≡ Holding lock → ⊥) → count (visit_left (told_back calls)) (ahead d) < 31)

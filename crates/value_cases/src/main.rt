@@ -7,7 +7,10 @@
 ghost use Rattle.std.specs.Prelude.{◌≡◌, ◌≤◌, length};
 
 use arrivals::PARTIES;
-use desk::{AddAnswer, Desk, GetAnswer, PutAnswer};
+use desk::{Desk, GetAnswer};
+use hierarchy::EdgeTable;
+use locks::Lent;
+use refusals::Refusal;
 use std::io::Write;
 
 // The numbers of a line that every step takes, and those that a step has besides: `given` is what put or add is given, `scratch` how many bytes of a scratch are lent.
@@ -55,38 +58,39 @@ fn taken(line: &[u8]) -> Call {
 fn table(line: &[u8], part: usize, count: usize) -> [u16; 2050]
     ensures { 2050 ≡ length result }
 {
-    let end = count % 2051;
     let mut places = [0u16; 2050];
-    let mut i = 0;
-    while i < end {
-        places[i] = (octets::byte(line, part % 3 * 23 + i % 22 + 6) % 16) as u16;
-        i += 1;
+    for i in 0..count % 2051 {
+        places[i] = u16::from(octets::byte(line, part % 3 * 23 + i % 22 + 6) % 16);
     }
     places
+}
+
+// The hierarchy that a line lends.
+fn lent<'a>(c: Call, intervals: &'a [u16], edges: &'a [u16]) -> Lent<'a> {
+    Lent {
+        n: c.n,
+        intervals,
+        edges: EdgeTable {
+            numbers: edges,
+            count: c.edge_count,
+        },
+    }
 }
 
 // ANSWERS are said, by the place of their word in `say`. What get answered; 14 is the number of waiting.
 fn got<W: Write>(out: &mut W, answer: GetAnswer) {
     match answer {
-        GetAnswer::Refused(k) => say(out, 0, k as u64),
+        GetAnswer::Refused(k) => say(out, 0, u64::from(k.number())),
         GetAnswer::Waiting => say(out, 1, 14),
         GetAnswer::Value(v) => say(out, 2, v),
     }
 }
 
-// What put answered; with stored goes the number that was given.
-fn stored<W: Write>(out: &mut W, answer: PutAnswer, given: u64) {
+// What put or add answered; with stored or added goes the number that was given.
+fn taken_in<W: Write>(out: &mut W, word: usize, answer: Result<(), Refusal>, given: u64) {
     match answer {
-        PutAnswer::Stored => say(out, 3, given),
-        PutAnswer::Refused(k) => say(out, 0, k as u64),
-    }
-}
-
-// What add answered; with added goes the number that was given.
-fn added<W: Write>(out: &mut W, answer: AddAnswer, given: u64) {
-    match answer {
-        AddAnswer::Added => say(out, 4, given),
-        AddAnswer::Refused(k) => say(out, 0, k as u64),
+        Ok(()) => say(out, word, given),
+        Err(k) => say(out, 0, u64::from(k.number())),
     }
 }
 
@@ -94,139 +98,66 @@ fn added<W: Write>(out: &mut W, answer: AddAnswer, given: u64) {
 fn say<W: Write>(out: &mut W, word: usize, number: u64) {
     let words = *b": refused : waiting :   value :  stored :   added : scratch ";
     let at = word % 6 * 10;
-    let end = at + 10;
-    streams::write_all(out, &words[at..end]);
-    streams::print_decimal(out, number);
+    let _ = streams::write_all(out, &words[at..at + 10]);
+    let _ = streams::print_decimal(out, number);
 }
 
 // How many a line lends of those that there are, as many as usual where it does not say.
 fn part(asked: usize, usual: usize, all: usize) -> usize
     ensures { result ≤ all }
 {
-    if asked == 0 {
-        return octets::least(usual, all);
-    }
-    octets::least(asked, all)
+    let count = if asked == 0 { usual } else { asked };
+    count.min(all)
 }
 
 // Says how many of the bytes that were lent of a scratch are not 0.
-fn say_scratch<W: Write>(out: &mut W, scratch: &[u8; 300], lent: usize) {
-    let mut count = 0;
-    let mut i = 0;
-    while i < lent {
-        if octets::byte(scratch, i) != 0 {
-            count += 1;
-        }
-        i += 1;
-    }
-    say(out, 5, count);
+fn say_scratch<W: Write>(out: &mut W, lent: &[u8]) {
+    let count = lent.iter().filter(|x| **x != 0).count();
+    say(out, 5, count as u64);
 }
 
 // STEPS. Enters, with so many names lent, a name count and a mode: 1 reading, 3 adding, any other writing.
-fn enter(line: &[u8], c: Call, desk: Desk, intervals: &[u16], edges: &[u16]) -> Desk {
+fn enter(line: &[u8], c: Call, desk: Desk, tables: &Lent<'_>) -> Desk {
     let lent = c.lent % 11;
     let names = table(line, 2, lent);
     let mode = locks::mode_when(c.second == 1, c.second != 3);
-    let step = desk.enter(
-        c.n,
-        intervals,
-        edges,
-        c.edge_count,
-        c.party,
-        mode,
-        &names[0..lent],
-        c.first,
-    );
-    step.desk
+    desk.enter(tables, c.party, mode, &names[..lent], c.first)
+        .desk
 }
 
 // Leaves, with as many bytes lent as it needs.
-fn leave(c: Call, desk: Desk, intervals: &[u16], edges: &[u16]) -> Desk {
+fn leave(c: Call, desk: Desk, tables: &Lent<'_>) -> Desk {
     let mut list = [0u8; PARTIES];
-    let step = desk.leave(c.n, intervals, edges, c.edge_count, c.party, &mut list);
-    step.desk
+    desk.leave(tables, c.party, &mut list).desk
 }
 
 // Gets the value of a node. As for put and add, so many bytes are lent of a scratch that holds 7 everywhere, and what is left in them is said behind the answer.
-fn get<W: Write>(
-    out: &mut W,
-    c: Call,
-    desk: Desk,
-    intervals: &[u16],
-    edges: &[u16],
-    values: &[u64],
-) -> Desk {
+fn get<W: Write>(out: &mut W, c: Call, desk: Desk, tables: &Lent<'_>, values: &[u64]) -> Desk {
     let mut scratch = [7u8; 300];
-    let lent = c.scratch % 301;
-    let step = desk.get(
-        c.n,
-        intervals,
-        edges,
-        c.edge_count,
-        c.party,
-        c.first,
-        values,
-        &mut scratch[0..lent],
-    );
-    let answer = step.answer;
-    got(out, answer);
-    say_scratch(out, &scratch, lent);
+    let lent = &mut scratch[..c.scratch % 301];
+    let step = desk.get(tables, c.party, c.first, values, lent);
+    got(out, step.answer);
+    say_scratch(out, lent);
     step.desk
 }
 
 // Puts a number at a node.
-fn put<W: Write>(
-    out: &mut W,
-    c: Call,
-    desk: Desk,
-    intervals: &[u16],
-    edges: &[u16],
-    values: &mut [u64],
-) -> Desk {
+fn put<W: Write>(out: &mut W, c: Call, desk: Desk, tables: &Lent<'_>, values: &mut [u64]) -> Desk {
     let mut scratch = [7u8; 300];
-    let lent = c.scratch % 301;
-    let step = desk.put(
-        c.n,
-        intervals,
-        edges,
-        c.edge_count,
-        c.party,
-        c.first,
-        c.given,
-        values,
-        &mut scratch[0..lent],
-    );
-    let answer = step.answer;
-    stored(out, answer, c.given);
-    say_scratch(out, &scratch, lent);
+    let lent = &mut scratch[..c.scratch % 301];
+    let step = desk.put(tables, c.party, c.first, c.given, values, lent);
+    taken_in(out, 3, step.answer, c.given);
+    say_scratch(out, lent);
     step.desk
 }
 
 // Adds a number at a node.
-fn add<W: Write>(
-    out: &mut W,
-    c: Call,
-    desk: Desk,
-    intervals: &[u16],
-    edges: &[u16],
-    values: &mut [u64],
-) -> Desk {
+fn add<W: Write>(out: &mut W, c: Call, desk: Desk, tables: &Lent<'_>, values: &mut [u64]) -> Desk {
     let mut scratch = [7u8; 300];
-    let lent = c.scratch % 301;
-    let step = desk.add(
-        c.n,
-        intervals,
-        edges,
-        c.edge_count,
-        c.party,
-        c.first,
-        c.given,
-        values,
-        &mut scratch[0..lent],
-    );
-    let answer = step.answer;
-    added(out, answer, c.given);
-    say_scratch(out, &scratch, lent);
+    let lent = &mut scratch[..c.scratch % 301];
+    let step = desk.add(tables, c.party, c.first, c.given, values, lent);
+    taken_in(out, 4, step.answer, c.given);
+    say_scratch(out, lent);
     step.desk
 }
 
@@ -240,11 +171,9 @@ fn by_hand(c: Call, desk: Desk) -> Desk {
 
 // Says the values that are lent.
 fn say_values<W: Write>(out: &mut W, values: &[u64]) {
-    let mut i = 0;
-    while i < values.len() {
-        streams::write_all(out, b" ");
-        streams::print_decimal(out, values[i]);
-        i += 1;
+    for value in values {
+        let _ = streams::write_all(out, b" ");
+        let _ = streams::print_decimal(out, *value);
     }
 }
 
@@ -254,16 +183,15 @@ fn perform<W: Write>(
     line: &[u8],
     c: Call,
     desk: Desk,
-    intervals: &[u16],
-    edges: &[u16],
+    tables: &Lent<'_>,
     values: &mut [u64],
 ) -> Desk {
     match octets::byte(line, 0) {
-        b'e' => enter(line, c, desk, intervals, edges),
-        b'g' => get(out, c, desk, intervals, edges, values),
-        b'p' => put(out, c, desk, intervals, edges, values),
-        b'a' => add(out, c, desk, intervals, edges, values),
-        b'l' => leave(c, desk, intervals, edges),
+        b'e' => enter(line, c, desk, tables),
+        b'g' => get(out, c, desk, tables, values),
+        b'p' => put(out, c, desk, tables, values),
+        b'a' => add(out, c, desk, tables, values),
+        b'l' => leave(c, desk, tables),
         b'd' => by_hand(c, desk),
         b'v' => {
             say_values(out, values);
@@ -281,16 +209,9 @@ fn answer<W: Write>(out: &mut W, line: &[u8], desk: Desk, values: &mut [u64]) ->
     let intervals = table(line, 0, places);
     let ends = c.ends % 2051;
     let edges = table(line, 1, ends);
+    let tables = lent(c, &intervals[..places], &edges[..ends]);
     let lent = part(c.lent, 10, values.len());
-    perform(
-        out,
-        line,
-        c,
-        desk,
-        &intervals[0..places],
-        &edges[0..ends],
-        &mut values[0..lent],
-    )
+    perform(out, line, c, desk, &tables, &mut values[..lent])
 }
 
 // Each line is written out, then what it asks for is done.
@@ -302,9 +223,9 @@ fn run<W: Write>(out: &mut W, text: &[u8]) {
         let end = streams::line_end(text, at);
         let line = &text[at..end];
         at = end + 1;
-        streams::write_all(out, line);
+        let _ = streams::write_all(out, line);
         desk = answer(out, line, desk, &mut values);
-        streams::write_all(out, b"\n");
+        let _ = streams::write_all(out, b"\n");
     }
 }
 
@@ -312,5 +233,5 @@ fn run<W: Write>(out: &mut W, text: &[u8]) {
 fn main(rt: HostRuntime) {
     let mut text = [0u8; 65536];
     let n = streams::read_full(&mut rt.stdin(), &mut text);
-    run(&mut rt.stdout(), &text[0..n]);
+    run(&mut rt.stdout(), &text[..n]);
 }

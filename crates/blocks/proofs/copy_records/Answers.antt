@@ -1,6 +1,6 @@
 -- `copy_records` meets its contract: the records left, written over the room as it is now, give the room with all of them. Each count is at most 31, since the file is accepted. Assumes nothing.
 use Prim.Native.Nat.{◌≤◌, ◌+◌}
-use mathlib.Core.Path.{refl, ◌∙◌}
+use mathlib.Core.Path.{◌∙◌}
 use native.Mathlib.Omega.{arith}
 use lib.ListN.{length, length-take, length-drop}
 use Rattle.blocks.proofs.Stages.{counts_part}
@@ -8,7 +8,7 @@ use Rattle.blocks.proofs.Copies.{copy_start, copy_start_length, copy_step, copy_
 use Rattle.blocks.proofs.copy_records.Goals as goal
 
 pub loop-i-init : goal.loop-i-init
-loop-i-init c = (omega arith, omega arith, refl, copy_start _ _ _, copy_start_length _ _)
+loop-i-init c = (omega arith, copy_start _ _ _, copy_start_length _ _)
 
 pub copy_block-to-requires : goal.copy_block-to-requires
 copy_block-to-requires c = let few = counts_part _ _ c.requires.3 _ c.loop-i-test.true in
@@ -17,38 +17,9 @@ copy_block-to-requires c = let few = counts_part _ _ c.requires.3 _ c.loop-i-tes
 pub loop-i-preserved : goal.loop-i-preserved
 loop-i-preserved c = let room : c.loop-i.to + 496 ≤ length c.loop-i.room = omega arith in (
   omega arith,
-  omega arith,
-  c.copy_block-to.auto.room ∙ c.loop-i.invariant.2,
-  copy_step _ _ _ c.loop-i-test.true _ _ _ _ room c.copy_block-to.ensures.1 c.copy_block-to.ensures.0 c.copy_block-to.ensures.2 ∙ c.loop-i.invariant.3,
-  copy_length _ _ _ c.loop-i-test.true _ _ _ _ room c.copy_block-to.ensures.1 c.copy_block-to.ensures.0 c.copy_block-to.ensures.2 ∙ c.loop-i.invariant.4,
+  copy_step _ _ _ c.loop-i-test.true _ _ _ _ room c.copy_block-to.ensures.1 c.copy_block-to.ensures.0 c.copy_block-to.ensures.2 ∙ c.loop-i.invariant.1,
+  copy_length _ _ _ c.loop-i-test.true _ _ _ _ room c.copy_block-to.ensures.1 c.copy_block-to.ensures.0 c.copy_block-to.ensures.2 ∙ c.loop-i.invariant.2,
 )
 
-pub shape_of-room : goal.shape_of-room
-shape_of-room c = c.loop-i.invariant.2
-
 pub returns : goal.returns
-returns c = (copy_end_length _ _ _ _ c.loop-i-test.false ∙ c.loop-i.invariant.4, copy_end _ _ _ _ _ c.loop-i-test.false ∙ c.loop-i.invariant.3)
-
-pub overflow_mul-at : goal.overflow_mul-at
-overflow_mul-at c = omega arith
-
-pub overflow_add-end : goal.overflow_add-end
-overflow_add-end c = omega arith
-
-pub slice_bounds-copy_block-count : goal.slice_bounds-copy_block-count
-slice_bounds-copy_block-count c = omega arith
-
-pub slice_bounds-copy_block-start : goal.slice_bounds-copy_block-start
-slice_bounds-copy_block-start c = omega arith
-
-pub slice_bounds-copy_block-end : goal.slice_bounds-copy_block-end
-slice_bounds-copy_block-end c = omega arith
-
-pub overflow_add-to : goal.overflow_add-to
-overflow_add-to c = omega arith
-
-pub overflow_add-i : goal.overflow_add-i
-overflow_add-i c = omega arith
-
-pub loop-i-smaller : goal.loop-i-smaller
-loop-i-smaller c = omega arith
+returns c = (copy_end_length _ _ _ _ c.loop-i-test.false ∙ c.loop-i.invariant.2, copy_end _ _ _ _ _ c.loop-i-test.false ∙ c.loop-i.invariant.1)

@@ -8,9 +8,6 @@ use Rattle.blocks.specs.File.{records_of}
 use Rattle.blocks.proofs.copy_records.Given as goal
 
 abbrev pub invariant-loop-i : goal.invariant-loop-i
-invariant-loop-i l = (l.i ≤ l.k) × (l.to ≤ 496 * l.i) × (length l.room ≡ length l.initial.room)
+invariant-loop-i l = (l.to ≤ 496 * l.i)
     × (over_at l.to (records_of (l.k - l.i) (drop (512 * l.i) l.file)) l.room ≡ over (records_of l.k l.file) l.initial.room)
     × (l.to + length (records_of (l.k - l.i) (drop (512 * l.i) l.file)) ≡ length (records_of l.k l.file))
-
-abbrev pub decreases-loop-i : goal.decreases-loop-i
-decreases-loop-i l = l.k - l.i

@@ -1,45 +1,41 @@
 -- `record_right` meets its contract, row by row. Assumes nothing.
 use mathlib.Core.Path.{sym, ap, ◌∙◌}
-use Rattle.blocks.specs.Record.{Kind, kinds, row_in}
-use Rattle.blocks.proofs.Rows.{past_rows, right_at}
+use Rattle.blocks.specs.Record.{kinds, row_in}
+use Rattle.blocks.specs.Inner.{kind_number}
+use Rattle.blocks.proofs.Rows.{right_at, no_kind}
 use Rattle.blocks.proofs.record_right.Goals as goal
 
-pub returns-in-1 : goal.returns-in-1
+pub returns-in-Some-Size : goal.returns-in-Some-Size
 unfolding kinds row_in
-returns-in-1 c = c.zero_from.ensures ∙ sym (right_at c.args.r.now (sym c.byte-kind.ensures ∙ c.in-1.is))
+returns-in-Some-Size c = c.zero_from.ensures ∙ sym (right_at c.args.r.now (c.in-Some-Size.ensures ∙ ap kind_number c.in-Some-Size.field-0-is))
 
-pub returns-in-2 : goal.returns-in-2
+pub returns-in-Some-Edge : goal.returns-in-Some-Edge
 unfolding kinds row_in
-returns-in-2 c = c.zero_from-in-2.ensures ∙ sym (right_at c.args.r.now (sym c.byte-kind.ensures ∙ c.in-2.is))
+returns-in-Some-Edge c = c.zero_from-in-Some-Edge.ensures ∙ sym (right_at c.args.r.now (c.in-Some-Edge.ensures ∙ ap kind_number c.in-Some-Edge.field-0-is))
 
-pub returns-in-3 : goal.returns-in-3
+pub returns-in-Some-Enter : goal.returns-in-Some-Enter
 unfolding kinds row_in
-returns-in-3 c = c.enter_right.ensures ∙ sym (right_at c.args.r.now (sym c.byte-kind.ensures ∙ c.in-3.is))
+returns-in-Some-Enter c = c.enter_right.ensures ∙ sym (right_at c.args.r.now (c.in-Some-Enter.ensures ∙ ap kind_number c.in-Some-Enter.field-0-is))
 
-pub returns-in-4 : goal.returns-in-4
+pub returns-in-Some-Get : goal.returns-in-Some-Get
 unfolding kinds row_in
-returns-in-4 c = c.zero_from-in-4.ensures ∙ sym (right_at c.args.r.now (sym c.byte-kind.ensures ∙ c.in-4.is))
+returns-in-Some-Get c = c.zero_from-in-Some-Get.ensures ∙ sym (right_at c.args.r.now (c.in-Some-Get.ensures ∙ ap kind_number c.in-Some-Get.field-0-is))
 
-pub returns-in-5 : goal.returns-in-5
+pub returns-in-Some-Put : goal.returns-in-Some-Put
 unfolding kinds row_in
-returns-in-5 c = c.zero_but_value.ensures ∙ sym (right_at c.args.r.now (sym c.byte-kind.ensures ∙ c.in-5.is))
+returns-in-Some-Put c = c.zero_but_value.ensures ∙ sym (right_at c.args.r.now (c.in-Some-Put.ensures ∙ ap kind_number c.in-Some-Put.field-0-is))
 
-pub returns-in-6 : goal.returns-in-6
+pub returns-in-Some-Leave : goal.returns-in-Some-Leave
 unfolding kinds row_in
-returns-in-6 c = c.zero_from-in-6.ensures ∙ sym (right_at c.args.r.now (sym c.byte-kind.ensures ∙ c.in-6.is))
+returns-in-Some-Leave c = c.zero_from-in-Some-Leave.ensures ∙ sym (right_at c.args.r.now (c.in-Some-Leave.ensures ∙ ap kind_number c.in-Some-Leave.field-0-is))
 
-pub returns-in-7 : goal.returns-in-7
+pub returns-in-Some-Add : goal.returns-in-Some-Add
 unfolding kinds row_in
-returns-in-7 c = c.zero_but_value-in-7.ensures ∙ sym (right_at c.args.r.now (sym c.byte-kind.ensures ∙ c.in-7.is))
+returns-in-Some-Add c = c.zero_but_value-in-Some-Add.ensures ∙ sym (right_at c.args.r.now (c.in-Some-Add.ensures ∙ ap kind_number c.in-Some-Add.field-0-is))
 
-pub returns-in-8 : goal.returns-in-8
+pub returns-in-Some-Value : goal.returns-in-Some-Value
 unfolding kinds row_in
-returns-in-8 c = c.value_right.ensures ∙ sym (right_at c.args.r.now (sym c.byte-kind.ensures ∙ c.in-8.is))
+returns-in-Some-Value c = c.value_right.ensures ∙ sym (right_at c.args.r.now (c.in-Some-Value.ensures ∙ ap kind_number c.in-Some-Value.field-0-is))
 
-pub returns-in_default : goal.returns-in_default
-unfolding kinds row_in
-returns-in_default c = sym
-    (right_at c.args.r.now (sym c.byte-kind.ensures)
-    ∙ ap (λ (k : Kind). k.right c.args.r.now)
-    (past_rows 8 kinds c.byte-kind.result
-    (c.in_default.in_default-own.rest.0.0.0.0.0.0.0.1, (c.in_default.in_default-own.rest.0.0.0.0.0.0.1, (c.in_default.in_default-own.rest.0.0.0.0.0.1, (c.in_default.in_default-own.rest.0.0.0.0.1, (c.in_default.in_default-own.rest.0.0.0.1, (c.in_default.in_default-own.rest.0.0.1, (c.in_default.in_default-own.rest.0.1, (c.in_default.in_default-own.rest.1, tt))))))))))
+pub returns-in-None : goal.returns-in-None
+returns-in-None c = sym (no_kind c.args.r.now c.in-None.ensures)

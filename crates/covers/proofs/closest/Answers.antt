@@ -9,19 +9,18 @@ use Rattle.covers.proofs.closest.Goals as goal
 use Rattle.covers.proofs.closest.Goals.{then-closer, else-closer}
 
 pub loop-node-init : goal.loop-node-init
-loop-node-init c = (looking_start c.args.intervals.now c.args.call c.interval_at-around.ensures, omega arith)
+loop-node-init c = looking_start c.args.intervals.now c.args.call c.interval_at-around.ensures
 
 pub loop-node-preserved : goal.loop-node-preserved
-loop-node-preserved c = (
-  elim c.if-closer.branch [
-    | then-closer w ↦ rw (w.best-is, w.around-is) (looking_closer c.args.intervals.now c.args.call c.loop-node.node c.loop-node.best c.loop-node.around c.interval_at-here.result
-        c.loop-node.invariant.0 c.interval_at-here.ensures (sym c.closer.ensures ∙ w.if-closer.true))
-    | else-closer w ↦ rw (w.best-is, w.around-is) (looking_past c.args.intervals.now c.args.call c.loop-node.node c.loop-node.best c.loop-node.around c.interval_at-here.result
-        c.loop-node.invariant.0 c.interval_at-here.ensures (sym c.closer.ensures ∙ w.if-closer.false))
-  ],
-  omega (arith, c.loop-node-test.true),
-)
+loop-node-preserved c =
+    let k = c.loop-node.node in
+    elim c.if-closer.branch [
+      | then-closer w ↦ rw (w.best-is, w.around-is) (looking_closer c.args.intervals.now c.args.call k c.loop-node.best c.loop-node.around c.interval_at-here.result
+          c.loop-node.invariant c.interval_at-here.ensures (sym c.closer.ensures ∙ w.if-closer.true))
+      | else-closer w ↦ rw (w.best-is, w.around-is) (looking_past c.args.intervals.now c.args.call k c.loop-node.best c.loop-node.around c.interval_at-here.result
+          c.loop-node.invariant c.interval_at-here.ensures (sym c.closer.ensures ∙ w.if-closer.false))
+    ]
 
 pub returns : goal.returns
-returns c = let e : c.loop-node.node ≡ min c.args.n (length c.args.intervals.now / 2 + 2) = omega (arith, c.loop-node.invariant.1, c.loop-node-test.false, c.worth_a_look-end.ensures) in
-    c.loop-node.invariant.0.found ∙ ap (λ (k : ℕ). closest_of k c.args.intervals.now c.args.call) e ∙ looked c.args.intervals.now c.args.call c.args.n
+returns c = let e : c.loop-node.node ≡ min c.args.n (length c.args.intervals.now / 2 + 2) = omega arith in
+    c.loop-node.invariant.found ∙ ap (λ (k : ℕ). closest_of k c.args.intervals.now c.args.call) e ∙ looked c.args.intervals.now c.args.call c.args.n

@@ -1,10 +1,6 @@
 -- `closest` meets its contract: it has the closest of the nodes that it has looked at, and the interval of that. Assumes nothing.
-use Prim.Native.Nat.{◌-◌, ◌≤◌}
 use Rattle.covers.proofs.Covers.{Looking}
 use Rattle.covers.proofs.closest.Given as goal
 
 abbrev pub invariant-loop-node : goal.invariant-loop-node
-invariant-loop-node l = Looking l.intervals l.call l.node l.best l.around × (l.node ≤ l.end)
-
-abbrev pub decreases-loop-node : goal.decreases-loop-node
-decreases-loop-node l = l.end - l.node
+invariant-loop-node l = Looking l.intervals l.call l.node l.best l.around

@@ -1,21 +1,15 @@
 -- `clear_first` meets its contract: the part that is cleared is the first bytes, or all. Assumes nothing.
-use mathlib.Core.Path.{sym, ap, ◌∙◌}
-use Prim.Native.Nat.{ℕ, ◌≤◌}
+use mathlib.Core.Path.{ap, ◌∙◌}
+use Prim.Native.Nat.{ℕ, ◌≤◌, min}
 use native.Mathlib.Omega.{arith}
 use lib.ListN.{length, replicate}
 use lib.Seq.{length-take-le}
-use Rattle.lists.proofs.Parts.{laid, first_cleared, all_cleared}
+use Rattle.lists.proofs.Parts.{laid}
 use Rattle.hierarchy.proofs.clear_first.Goals as goal
 
-pub returns-then-bytes-count : goal.returns-then-bytes-count
-returns-then-bytes-count c = all_cleared c.args.count c.args.bytes.now c.clear.new.bytes c.if-bytes-count.true c.clear.ensures
-
-pub slice_bounds-clear-end-2 : goal.slice_bounds-clear-end-2
-slice_bounds-clear-end-2 c = sym (length-take-le c.args.count c.args.bytes.now (omega (arith, c.if-bytes-count.false)))
-
 pub returns : goal.returns
-returns c = let few : c.args.count ≤ length c.args.bytes.now = omega (arith, c.if-bytes-count.false) in
-    first_cleared c.args.count c.args.bytes.now _ few
-    (laid c.args.count (replicate c.args.count 0) c.clear-2.new.bytes c.args.bytes.now
-    (c.clear-2.ensures ∙ ap (λ (k : ℕ). replicate k 0) (length-take-le c.args.count c.args.bytes.now few))
-    few c.clear-2.auto.bytes)
+returns c =
+    let few : min c.args.count (length c.args.bytes.now) ≤ length c.args.bytes.now = omega arith in
+    laid c.min-end.result (replicate (min c.args.count (length c.args.bytes.now)) 0) c.fill.new.self c.args.bytes.now
+    (c.fill.ensures.after (λ y h. h) ∙ ap (λ (k : ℕ). replicate k 0) (length-take-le c.min-end.result c.args.bytes.now (omega arith) ∙ c.min-end.ensures))
+    (omega arith) c.fill.ensures.len

@@ -1,12 +1,12 @@
--- `edge_twice` meets its contract: what is left of the table decides. Assumes nothing.
+-- `edge_twice` meets its contract: what is left of the edges decides. Assumes nothing.
 use mathlib.Core.Path.{◌≡◌}
-use Prim.Native.Nat.{◌-◌}
-use Rattle.hierarchy.specs.Hierarchy.{edges_of, edge_twice}
-use Rattle.hierarchy.proofs.EdgeLoops.{rest}
+use lib.ListN.{length}
+use Rattle.hierarchy.specs.Hierarchy.{edges_in, edge_twice}
+use Rattle.hierarchy.proofs.Pairs.{twice}
 use Rattle.hierarchy.proofs.edge_twice.Given as goal
 
-abbrev pub invariant-loop-e : goal.invariant-loop-e
-invariant-loop-e l = edge_twice (rest l.edges l.edge_count l.e) ≡ edge_twice (edges_of l.edges l.edge_count)
+abbrev pub invariant-loop-left : goal.invariant-loop-left
+invariant-loop-left l = twice l.left ≡ edge_twice (edges_in l.edges)
 
-abbrev pub decreases-loop-e : goal.decreases-loop-e
-decreases-loop-e l = l.whole - l.e
+abbrev pub decreases-loop-left : goal.decreases-loop-left
+decreases-loop-left l = length l.left

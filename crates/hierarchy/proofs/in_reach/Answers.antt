@@ -10,5 +10,5 @@ use Rattle.hierarchy.proofs.in_reach.Goals as goal
 pub returns : goal.returns
 returns c = record {
   value = c.has_flag-found.ensures ∙ ap (λ (flags : List ℕ). flagged flags c.args.node) c.flag_reach.ensures ∙ reach_names _ _ c.args.names.now c.args.node;
-  flags_after = c.clear.ensures ∙ ap (λ (n : ℕ). replicate n 0) c.flag_reach.auto.flags;
+  flags_after = c.fill.ensures.after (λ y h. h) ∙ ap (λ (n : ℕ). replicate n 0) c.flag_reach.auto.flags;
 }

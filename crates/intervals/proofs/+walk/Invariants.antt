@@ -8,8 +8,5 @@ use Rattle.intervals.proofs.+walk.Given as goal
 abbrev pub decreases-walk : goal.decreases-walk
 decreases-walk l = zeros l.marks.now
 
-abbrev pub invariant-loop-left : goal.invariant-loop-left
-invariant-loop-left l = Left l.edges l.edge_count l.node (walk_at l.initial.at l.initial.marks l.initial.numbers) l.left l.leaf (walk_at l.at l.marks l.numbers)
-
-abbrev pub decreases-loop-left : goal.decreases-loop-left
-decreases-loop-left l = l.left
+abbrev pub invariant-loop-e : goal.invariant-loop-e
+invariant-loop-e l = Left l.edges.numbers.now l.edges.count l.node (walk_at l.initial.at l.initial.marks l.initial.numbers) l.e l.leaf (walk_at l.at l.marks l.numbers)

@@ -15,24 +15,24 @@ use Rattle.lists.proofs.Loops.{lent}
 use Rattle.lists.proofs.Parts.{behind, laid, zeroed, enough_cleared}
 use Rattle.hierarchy.proofs.Legals.{Promise, promised}
 use Rattle.intervals.proofs.Writes.{legal_edges}
-use Rattle.intervals.proofs.Builds.{legal_of, short_places, short_edges, long_enough, left_short, left_refused, left_built}
+use Rattle.intervals.proofs.Builds.{legal_of, long_enough, left_built}
 use Rattle.intervals.proofs.build.Goals as goal
-use Rattle.intervals.proofs.build.Goals.{After-number, After-refused-refusal, Else-refusal-ne0}
+use Rattle.intervals.proofs.build.Goals.{After-number, After-judge, In_default}
 
 -- what is known once the hierarchy is judged
-enough : (c : After-refused-refusal) → build_short c.args.n c.args.edges.now c.args.edge_count c.args.places.now c.args.scratch.now ≡ false
-enough c = long_enough c.args.n c.args.edges.now c.args.edge_count c.args.places.now c.args.scratch.now c.if-places-n.false c.if-edges-edge_count.false (omega arith)
+enough : (c : After-judge) → build_short c.args.n c.args.edges.now.numbers.now c.args.edges.now.count c.args.places.now c.args.scratch.now ≡ false
+enough c = long_enough c.args.n c.args.edges.now.numbers.now c.args.edges.now.count c.args.places.now c.args.scratch.now c.if-places-n.false c.if-edges.false (omega arith)
 
 -- what is known where it is legal
-module _ (c : Else-refusal-ne0) where
-  legal : Legal c.args.n c.args.edges.now c.args.edge_count
-  legal = legal_of c.args.n c.args.edges.now c.args.edge_count (sym c.if-refusal-ne0.false ∙ c.refused-refusal.ensures)
+module _ (c : In_default) where
+  legal : Legal c.args.n c.args.edges.now.numbers.now c.args.edges.now.count
+  legal = legal_of c.args.n c.args.edges.now.numbers.now c.args.edges.now.count c.in_default.ensures
 
-  promise : Promise c.args.n (edges_of c.args.edges.now c.args.edge_count)
-  promise = promised c.args.n c.args.edges.now c.args.edge_count legal
+  promise : Promise c.args.n (edges_of c.args.edges.now.numbers.now c.args.edges.now.count)
+  promise = promised c.args.n c.args.edges.now.numbers.now c.args.edges.now.count legal
 
-  whole : 2 * c.args.edge_count ≤ length c.args.edges.now
-  whole = omega (arith, c.if-edges-edge_count.false)
+  whole : 2 * c.args.edges.now.count ≤ length c.args.edges.now.numbers.now
+  whole = omega (arith, c.if-edges.false)
 
   marks_long : length (take c.args.n c.args.scratch.now) ≡ c.args.n
   marks_long = length-take-le c.args.n c.args.scratch.now (omega (arith, promise.few))
@@ -44,7 +44,7 @@ module _ (c : Else-refusal-ne0) where
   table_long = length-take-le (2 * c.args.n) c.args.places.now (omega (arith, c.if-places-n.false))
 
 -- and once the nodes are numbered
-module _ (c : After-number) (right : Promise c.args.n (edges_of c.args.edges.now c.args.edge_count)) where
+module _ (c : After-number) (right : Promise c.args.n (edges_of c.args.edges.now.numbers.now c.args.edges.now.count)) where
   abbrev numbers : List ℕ
   numbers = c.number.new.numbers ++ drop c.args.n (replicate 256 0)
 
@@ -54,11 +54,11 @@ module _ (c : After-number) (right : Promise c.args.n (edges_of c.args.edges.now
   few : c.args.n ≤ length numbers
   few = omega (arith, length_front {A = ℕ} (replicate 256 0) c.number.new.numbers c.args.n c.number.auto.numbers, right.few)
 
-  numbered : length (take c.args.n c.args.scratch.now) ≡ c.args.n → take c.args.n numbers ≡ numbering c.args.n (edges_of c.args.edges.now c.args.edge_count)
+  numbered : length (take c.args.n c.args.scratch.now) ≡ c.args.n → take c.args.n numbers ≡ numbering c.args.n (edges_of c.args.edges.now.numbers.now c.args.edges.now.count)
   numbered long =
       lent c.args.n c.number.new.numbers (replicate 256 0) right.few c.number.auto.numbers
       ∙ c.number.ensures
-      ∙ ap (λ (m : ℕ). numbering m (edges_of c.args.edges.now c.args.edge_count)) long
+      ∙ ap (λ (m : ℕ). numbering m (edges_of c.args.edges.now.numbers.now c.args.edges.now.count)) long
 
   room : 512 ≤ length marked
   room = omega (arith, length_front c.args.scratch.now c.number.new.marks c.args.n c.number.auto.marks)
@@ -68,60 +68,43 @@ module _ (c : After-number) (right : Promise c.args.n (edges_of c.args.edges.now
       zeroed 512 marked c.args.scratch.now
       (behind 512 c.args.n c.number.new.marks c.args.scratch.now (omega (arith, right.few)) (omega (arith, right.few)) c.number.auto.marks)
 
-pub returns-then-places-n : goal.returns-then-places-n
-returns-then-places-n c =
-    let e = left_short c.args.n c.args.edges.now c.args.edge_count c.args.places.now c.args.scratch.now (short_places c.args.n c.args.edges.now c.args.edge_count c.args.places.now c.args.scratch.now c.if-places-n.true) in
-    record { result_value = e.0; places_after = e.1.0; scratch_after = e.1.1 }
-
-pub returns-then-edges-edge_count : goal.returns-then-edges-edge_count
-returns-then-edges-edge_count c =
-    let e = left_short c.args.n c.args.edges.now c.args.edge_count c.args.places.now c.args.scratch.now (short_edges c.args.n c.args.edges.now c.args.edge_count c.args.places.now c.args.scratch.now c.if-places-n.false c.if-edges-edge_count.true) in
-    record { result_value = e.0; places_after = e.1.0; scratch_after = e.1.1 }
-
-pub returns-then-refusal-ne0 : goal.returns-then-refusal-ne0
-returns-then-refusal-ne0 c =
-    let e = left_refused c.args.n c.args.edges.now c.args.edge_count c.args.places.now c.args.scratch.now (enough (goal.at.returns-then-refusal-ne0 c).After-refused-refusal) c.clear_first.new.bytes
-    (enough_cleared 512 c.args.scratch.now c.clear_first.new.bytes (omega arith) c.clear_first.ensures)
-    c.refused-refusal.result c.refused-refusal.ensures c.if-refusal-ne0.true in
-    record { result_value = e.0; places_after = e.1.0; scratch_after = e.1.1 }
-
 pub slice_bounds-number-end : goal.slice_bounds-number-end
-slice_bounds-number-end c = omega (arith, (promise (goal.at.slice_bounds-number-end c).Else-refusal-ne0).few)
+slice_bounds-number-end c = omega (arith, (promise (goal.at.slice_bounds-number-end c).In_default).few)
 
 pub slice_bounds-number-end-2 : goal.slice_bounds-number-end-2
-slice_bounds-number-end-2 c = sym (marks_long (goal.at.slice_bounds-number-end-2 c).Else-refusal-ne0)
+slice_bounds-number-end-2 c = sym (marks_long (goal.at.slice_bounds-number-end-2 c).In_default)
 
 pub slice_bounds-numbers-end : goal.slice_bounds-numbers-end
-slice_bounds-numbers-end c = (promise (goal.at.slice_bounds-numbers-end c).Else-refusal-ne0).few
+slice_bounds-numbers-end c = (promise (goal.at.slice_bounds-numbers-end c).In_default).few
 
 pub slice_bounds-number-end-3 : goal.slice_bounds-number-end-3
-slice_bounds-number-end-3 c = sym (numbers_long (goal.at.slice_bounds-number-end-3 c).Else-refusal-ne0)
+slice_bounds-number-end-3 c = sym (numbers_long (goal.at.slice_bounds-number-end-3 c).In_default)
 
 pub number-requires : goal.number-requires
 number-requires c =
-    let r = (goal.at.number-requires c).Else-refusal-ne0 in
+    let r = (goal.at.number-requires c).In_default in
     rw (marks_long r)
-    (record { some = (promise r).some; few = (promise r).few; alike = numbers_long r; ends = legal_edges c.args.n c.args.edges.now c.args.edge_count (legal r) (whole r) })
+    (record { some = (promise r).some; few = (promise r).few; alike = numbers_long r; ends = legal_edges c.args.n c.args.edges.now.numbers.now c.args.edges.now.count (legal r) (whole r) })
 
 pub slice_bounds-write_intervals-end : goal.slice_bounds-write_intervals-end
 slice_bounds-write_intervals-end c = sym (length_front {A = ℕ} (replicate 256 0) c.number.new.numbers c.args.n c.number.auto.numbers)
 
 pub slice_bounds-write_intervals-end-3 : goal.slice_bounds-write_intervals-end-3
-slice_bounds-write_intervals-end-3 c = sym (table_long (goal.at.slice_bounds-write_intervals-end-3 c).Else-refusal-ne0)
+slice_bounds-write_intervals-end-3 c = sym (table_long (goal.at.slice_bounds-write_intervals-end-3 c).In_default)
 
 pub write_intervals-requires : goal.write_intervals-requires
 write_intervals-requires c =
-    let r = (goal.at.write_intervals-requires c).Else-refusal-ne0 in
+    let r = (goal.at.write_intervals-requires c).In_default in
     let m = (goal.at.write_intervals-requires c).After-number in
     record { legal = legal r; whole = whole r; enough = few m (promise r); numbered = numbered m (promise r) (marks_long r); long = table_long r }
 
 pub returns : goal.returns
 returns c =
-    let r = (goal.at.returns c).Else-refusal-ne0 in
+    let r = (goal.at.returns c).In_default in
     let m = (goal.at.returns c).After-number in
-    let e = left_built c.args.n c.args.edges.now c.args.edge_count c.args.places.now c.args.scratch.now (enough (goal.at.returns c).After-refused-refusal) c.clear_first-2.new.bytes
+    let e = left_built c.args.n c.args.edges.now.numbers.now c.args.edges.now.count c.args.places.now c.args.scratch.now (enough (goal.at.returns c).After-judge) c.clear_first-2.new.bytes
     (enough_cleared 512 (marked m (promise r)) c.clear_first-2.new.bytes (room m (promise r)) c.clear_first-2.ensures ∙ wiped m (promise r))
     (legal r) _
-    (laid (2 * c.args.n) (interval_table c.args.n (edges_of c.args.edges.now c.args.edge_count)) c.write_intervals.new.table c.args.places.now c.write_intervals.ensures
+    (laid (2 * c.args.n) (interval_table c.args.n (edges_of c.args.edges.now.numbers.now c.args.edges.now.count)) c.write_intervals.new.table c.args.places.now c.write_intervals.ensures
     (omega (arith, c.if-places-n.false)) c.write_intervals.auto.table) in
     record { result_value = e.0; places_after = e.1.0; scratch_after = e.1.1 }

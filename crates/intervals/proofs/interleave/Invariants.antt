@@ -4,6 +4,3 @@ use Rattle.intervals.proofs.interleave.Given as goal
 
 abbrev pub invariant-loop-node : goal.invariant-loop-node
 invariant-loop-node l = Doubling l.n l.numbers l.initial.table l.node l.table
-
-abbrev pub decreases-loop-node : goal.decreases-loop-node
-decreases-loop-node l = l.node

@@ -4,8 +4,8 @@ use Rattle.intervals.proofs.number.Goals as goal
 
 pub walk-requires : goal.walk-requires
 walk-requires c = fresh_ready _ _ _ _ _ _ c.requires
-    c.clear.ensures c.clear_numbers.ensures
+    (c.fill.ensures.after (λ y h. h)) (c.fill-2.ensures.after (λ y h. h))
 
 pub returns : goal.returns
-returns c = fresh_end _ _ _ _ _ _ c.requires c.clear.ensures
-    c.clear_numbers.ensures _ c.walk.ensures
+returns c = fresh_end _ _ _ _ _ _ c.requires (c.fill.ensures.after (λ y h. h))
+    (c.fill-2.ensures.after (λ y h. h)) _ c.walk.ensures

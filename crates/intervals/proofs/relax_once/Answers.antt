@@ -8,17 +8,14 @@ use Rattle.intervals.proofs.relax_once.Goals.{After-edge_at-ends}
 
 -- the places of both ends are in the table, and a usize holds them
 within : (c : After-edge_at-ends)
-    → (2 * c.edge_at-ends.result.parent + 1 < length c.loop-left.table) ×
-    (2 * c.edge_at-ends.result.child + 1 < length c.loop-left.table) × (length c.loop-left.table < 18446744073709551616)
-within c = let w = in_table _ _ _ _ c.requires _ _ _ c.loop-left.invariant c.loop-left-test.true c.turn_at-e.result c.turn_at-e.ensures
+    → (2 * c.edge_at-ends.result.parent + 1 < length c.loop-turn.table) ×
+    (2 * c.edge_at-ends.result.child + 1 < length c.loop-turn.table) × (length c.loop-turn.table < 18446744073709551616)
+within c = let w = in_table _ _ _ _ c.requires _ _ _ c.loop-turn.invariant c.loop-turn-test.true c.turn_at.result c.turn_at.ensures
     c.edge_at-ends.result c.edge_at-ends.ensures in
-    (w.0, w.1, omega (arith, c.loop-left.invariant.long, c.well_formed))
+    (w.0, w.1, omega (arith, c.loop-turn.invariant.long, c.well_formed))
 
-pub loop-left-init : goal.loop-left-init
-loop-left-init c = relaxing_start _ _ _ _ (λ i. omega (arith, c.slice_known-1.given i))
-
-pub turn_at-e-requires : goal.turn_at-e-requires
-turn_at-e-requires c = record { le_left = c.loop-left-test.true; left_le_edge_count = c.loop-left.invariant.so_far }
+pub loop-turn-init : goal.loop-turn-init
+loop-turn-init c = relaxing_start _ _ _ _ (λ i. omega (arith, c.slice_known-1.given i))
 
 pub overflow_mul-to : goal.overflow_mul-to
 overflow_mul-to c = omega (arith, within (goal.at.overflow_mul-to c).After-edge_at-ends)
@@ -39,21 +36,21 @@ pub improve-high-requires : goal.improve-high-requires
 improve-high-requires c = let w = within (goal.at.improve-high-requires c).After-edge_at-ends in
     let n = c.improve-low.auto.table in record { to_in_bounds = omega arith; from_in_bounds = omega arith }
 
-pub loop-left-preserved : goal.loop-left-preserved
-loop-left-preserved c = relaxing_more _ _ _ _ c.requires _ _ _ c.loop-left.invariant c.loop-left-test.true c.turn_at-e.result c.turn_at-e.ensures
+pub loop-turn-preserved : goal.loop-turn-preserved
+loop-turn-preserved c = relaxing_more _ _ _ _ c.requires _ _ _ c.loop-turn.invariant c.loop-turn-test.true c.turn_at.result c.turn_at.ensures
     c.edge_at-ends.result c.edge_at-ends.ensures
     c.improve-low.new.table c.improve-high.new.table c.improve-low.result c.improve-high.result
     c.improve-low.ensures.value c.improve-low.ensures.table_after c.improve-high.ensures.value c.improve-high.ensures.table_after
-    (λ k. omega (arith, c.slice_known-in-loop-left-1.given k)) (λ k. omega (arith, c.slice_known-in-loop-left-2-1.given k))
+    (λ k. omega (arith, c.slice_known-in-loop-turn-1.given k)) (λ k. omega (arith, c.slice_known-in-loop-turn-2-1.given k))
     c.improve-low.auto.table c.improve-high.auto.table
 
 pub shape_of-table : goal.shape_of-table
-shape_of-table c = c.loop-left.invariant.long
+shape_of-table c = c.loop-turn.invariant.long
 
 pub returns : goal.returns
 returns c = record {
-  kept = c.loop-left.invariant.lower;
-  kept_2 = c.loop-left.invariant.higher;
-  went = c.loop-left.invariant.went;
-  settled = relaxing_end _ _ _ _ c.requires _ _ _ c.loop-left.invariant c.loop-left-test.false;
+  kept = c.loop-turn.invariant.lower;
+  kept_2 = c.loop-turn.invariant.higher;
+  went = c.loop-turn.invariant.went;
+  settled = relaxing_end _ _ _ _ c.requires _ _ _ c.loop-turn.invariant c.loop-turn-test.false;
 }

@@ -2,8 +2,5 @@
 use Rattle.intervals.proofs.Tables.{Relaxing}
 use Rattle.intervals.proofs.relax_once.Given as goal
 
-abbrev pub invariant-loop-left : goal.invariant-loop-left
-invariant-loop-left l = Relaxing l.back l.edges l.edge_count l.initial.table l.left l.changed l.table
-
-abbrev pub decreases-loop-left : goal.decreases-loop-left
-decreases-loop-left l = l.left
+abbrev pub invariant-loop-turn : goal.invariant-loop-turn
+invariant-loop-turn l = Relaxing l.back l.edges.numbers.now l.edges.count l.initial.table l.turn l.changed l.table

@@ -16,7 +16,7 @@ module _ (c : After-interleave) where
   long : length c.interleave.new.table ≡ 2 * c.args.n
   long = c.interleave.auto.table ∙ c.requires.long
 
-  doubles : c.interleave.new.table ≡ doubled (numbering c.args.n (edges_of c.args.edges.now c.args.edge_count))
+  doubles : c.interleave.new.table ≡ doubled (numbering c.args.n (edges_of c.args.edges.now.numbers.now c.args.edges.now.count))
   doubles = c.interleave.ensures ∙ ap doubled c.requires.numbered
 
 pub interleave-requires : goal.interleave-requires
@@ -25,10 +25,10 @@ interleave-requires c = record { n_in_bounds = c.requires.enough; table_len = c.
 pub settle-requires : goal.settle-requires
 settle-requires c =
     let e : length (lows c.interleave.new.table) ≡ c.args.n = omega (arith, lows_long c.interleave.new.table, long (goal.at.settle-requires c).After-interleave) in
-    rw e (legal_edges c.args.n c.args.edges.now c.args.edge_count c.requires.legal c.requires.whole)
+    rw e (legal_edges c.args.n c.args.edges.now.numbers.now c.args.edges.now.count c.requires.legal c.requires.whole)
 
 pub returns : goal.returns
 returns c =
     let l = (goal.at.returns c).After-interleave in
-    written c.args.n (edges_of c.args.edges.now c.args.edge_count) (promised c.args.n c.args.edges.now c.args.edge_count c.requires.legal) c.interleave.new.table c.settle.new.table
+    written c.args.n (edges_of c.args.edges.now.numbers.now c.args.edges.now.count) (promised c.args.n c.args.edges.now.numbers.now c.args.edges.now.count c.requires.legal) c.interleave.new.table c.settle.new.table
     (doubles l) (λ i. omega (arith, c.slice_known-2-1.given i)) (c.settle.auto.table ∙ long l) c.settle.ensures.best c.settle.ensures.best_2

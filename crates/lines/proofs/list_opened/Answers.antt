@@ -11,19 +11,13 @@ use Rattle.lines.proofs.Files.{ready_shown}
 use Rattle.lines.proofs.list_opened.Goals as goal
 
 pub slice_bounds-list_built-end : goal.slice_bounds-list_built-end
-slice_bounds-list_built-end c = let h : 2 * c.args.n ≤ length c.args.places.now = omega (arith, c.requires) in sym (length-take-le _ _ h)
+slice_bounds-list_built-end c = let h : 16 * c.args.total ≤ length c.args.records.now = omega (arith, c.requires) in sym (length-take-le _ _ h)
 
 pub slice_bounds-list_built-end-2 : goal.slice_bounds-list_built-end-2
-slice_bounds-list_built-end-2 c = let h : 2 * c.args.edge_count ≤ length c.args.edges.now = omega (arith, c.requires) in sym (length-take-le _ _ h)
+slice_bounds-list_built-end-2 c = omega (arith, c.requires)
 
 pub slice_bounds-list_built-end-3 : goal.slice_bounds-list_built-end-3
-slice_bounds-list_built-end-3 c = let h : 16 * c.args.total ≤ length c.args.records.now = omega (arith, c.requires) in sym (length-take-le _ _ h)
-
-pub slice_bounds-list_built-end-4 : goal.slice_bounds-list_built-end-4
-slice_bounds-list_built-end-4 c = omega (arith, c.requires)
-
-pub slice_bounds-list_built-end-5 : goal.slice_bounds-list_built-end-5
-slice_bounds-list_built-end-5 c = let h : c.args.n ≤ length c.args.values.now = omega (arith, c.requires) in sym (length-take-le _ _ h)
+slice_bounds-list_built-end-3 c = let h : c.args.n ≤ length c.args.values.now = omega (arith, c.requires) in sym (length-take-le _ _ h)
 
 pub list_built-requires : goal.list_built-requires
 list_built-requires c = record { records_value = c.requires.records_value; values_len = length-take-le c.args.n c.args.values.now (omega (arith, c.requires)) }
@@ -32,4 +26,4 @@ pub returns : goal.returns
 returns c = let long : length (take c.args.n c.args.values.now) ≡ c.args.n = length-take-le c.args.n c.args.values.now (omega (arith, c.requires)) in
     let rs : List (List ℕ) = record_list (take (16 * c.args.total) c.args.records.now) in
     ready_shown (lent c.args.n (take (2 * c.args.n) c.args.places.now) (take (2 * c.args.edge_count) c.args.edges.now) c.args.edge_count) rs (step_records rs)
-    c.args.values.now c.args.text.now c.list_built.new.values refl (omega (arith, long, c.values-1.given)) c.list_built.ensures
+    c.args.values.now c.args.text.now c.list_built.new.values refl (omega (arith, long, c.list_built.auto.values)) c.list_built.ensures

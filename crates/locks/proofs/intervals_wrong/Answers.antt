@@ -1,7 +1,9 @@
 -- `intervals_wrong` meets its contract: a table that is too short has a wrong interval. Assumes nothing.
-use mathlib.Core.Path.{sym}
+use mathlib.Core.Path.{sym, ◌∙◌}
+use borrow.Author.Tests.{lt-ltb}
+use Rattle.locks.specs.Lent.{lent_in}
 use Rattle.locks.proofs.Tables.{short_wrong}
 use Rattle.locks.proofs.intervals_wrong.Goals as goal
 
-pub returns-then-intervals-n : goal.returns-then-intervals-n
-returns-then-intervals-n c = sym (short_wrong c.args.n c.args.n c.args.intervals.now c.if-intervals-n.true)
+pub returns-then-tables : goal.returns-then-tables
+returns-then-tables c = lt-ltb _ _ c.if-tables.true ∙ sym (short_wrong (lent_in c.args.tables.now) c.if-tables.true)

@@ -17,13 +17,13 @@ use Rattle.needless.proofs.count_built.Goals.{Start}
 -- what is known from the start
 module _ (c : Start) where
   abbrev n : ℕ
-  n = c.args.n
+  n = c.args.tables.now.n
 
   abbrev edges : List ℕ
-  edges = c.args.edges.now
+  edges = c.args.tables.now.edges.numbers.now
 
   abbrev count : ℕ
-  count = c.args.edge_count
+  count = c.args.tables.now.edges.count
 
   promise : Promise n (edges_of edges count)
   promise = promised n edges count c.requires.legal
@@ -65,7 +65,7 @@ pub slice_bounds-sets-end-3 : goal.slice_bounds-sets-end-3
 slice_bounds-sets-end-3 c = words_long (goal.at.slice_bounds-sets-end-3 c).Start c.sets.new.words c.sets.auto.words
 
 pub slice_bounds-count_records-end : goal.slice_bounds-count_records-end
-slice_bounds-count_records-end c = sym (length-take-le (4 * c.args.n) (words (goal.at.slice_bounds-count_records-end c).Start c.sets.new.words c.sets.auto.words) (words_long (goal.at.slice_bounds-count_records-end c).Start c.sets.new.words c.sets.auto.words))
+slice_bounds-count_records-end c = sym (length-take-le (4 * c.args.tables.now.n) (words (goal.at.slice_bounds-count_records-end c).Start c.sets.new.words c.sets.auto.words) (words_long (goal.at.slice_bounds-count_records-end c).Start c.sets.new.words c.sets.auto.words))
 
 pub slice_bounds-values-end : goal.slice_bounds-values-end
 slice_bounds-values-end c = (promise (goal.at.slice_bounds-values-end c).Start).few

@@ -4,10 +4,4 @@ use lib.Seq.{length-take-le}
 use Rattle.needless.proofs.count_opened.Goals as goal
 
 pub slice_bounds-count_built-end : goal.slice_bounds-count_built-end
-slice_bounds-count_built-end c = sym (length-take-le _ c.args.places.now c.requires.n_in_bounds.0)
-
-pub slice_bounds-count_built-end-2 : goal.slice_bounds-count_built-end-2
-slice_bounds-count_built-end-2 c = sym (length-take-le _ c.args.edges.now c.requires.n_in_bounds.1)
-
-pub slice_bounds-count_built-end-3 : goal.slice_bounds-count_built-end-3
-slice_bounds-count_built-end-3 c = sym (length-take-le _ c.args.records.now c.requires.n_in_bounds.2)
+slice_bounds-count_built-end c = sym (length-take-le _ c.args.records.now c.requires.n_in_bounds.2)

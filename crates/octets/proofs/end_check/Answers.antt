@@ -4,7 +4,7 @@ use Rattle.octets.proofs.Words.{ended, last_byte}
 use Rattle.octets.proofs.end_check.Goals as goal
 
 pub returns-then-at-bytes : goal.returns-then-at-bytes
-returns-then-at-bytes c = last_byte c.args.bytes.now _ _ c.if-at-bytes.true c.wide.ensures.0 c.join.ensures
+returns-then-at-bytes c = last_byte c.args.bytes.now _ _ c.if-at-bytes.true c.from.ensures c.join.ensures
 
-pub returns : goal.returns
-returns c = c.join-2.ensures ∙ ended c.args.bytes.now _ _ _ c.if-at-bytes.false
+pub returns-else-at-bytes : goal.returns-else-at-bytes
+returns-else-at-bytes c = c.join-else-at-bytes.ensures ∙ ended c.args.bytes.now _ _ _ c.if-at-bytes.false

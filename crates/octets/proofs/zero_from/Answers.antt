@@ -1,10 +1,12 @@
--- `zero_from` meets its contract: all of a list is tested. Assumes nothing.
-use mathlib.Core.List.{List}
-use mathlib.Core.Path.{ap, ◌∙◌}
-use Prim.Native.Nat.{ℕ}
-use lib.Seq.{take-length}
-use Rattle.octets.specs.Bytes.{zero_from}
+-- `zero_from` meets its contract: the chain tests what is left behind `at`. Assumes nothing.
+use Rattle.std.proofs.Common.{◌∙◌, eqb, drop, rules, tests}
+use Rattle.std.proofs.lemmas.Iterator.{YieldsList-from_slice}
+use Rattle.std.proofs.lemmas.Iterator.Adapters.{YieldsList-from_skip}
+use Rattle.std.proofs.lemmas.Iterator.Search.{all_from_yields_List}
+use Rattle.lists.proofs.Std.{every_std}
 use Rattle.octets.proofs.zero_from.Goals as goal
 
 pub returns : goal.returns
-returns c = c.zero_between.ensures ∙ ap (λ (s : List ℕ). zero_from c.args.at s) (take-length c.args.s.now)
+returns c =
+    all_from_yields_List (eqb 0) _ _ _ c.all.ensures.ran (YieldsList-from_skip c.args.at (YieldsList-from_slice c.args.s.now cc) cc) (λ x b q k. search (rules, tests))
+    ∙ every_std (eqb 0) (drop c.args.at c.args.s.now)

@@ -1,60 +1,52 @@
 -- `step_count` meets its contract: the steps counted, and those left, are all. Assumes nothing.
 use mathlib.Core.Path.{◌≡◌, refl, sym, ap, ◌∙◌}
-use mathlib.Core.List.{List, []}
-use Prim.Native.Nat.{ℕ, ◌+◌, ◌*◌, ◌-◌}
+use mathlib.Core.Bool.{Bool, true, false}
+use mathlib.Core.List.{List}
+use Prim.Native.Nat.{ℕ, ◌+◌}
+use native.Mathlib.Nat.{zero-add}
 use native.Mathlib.Omega.{arith}
-use lib.ListN.{get_or, take, drop}
-use Rattle.lists.specs.Lists.{count}
-use Rattle.lists.proofs.Loops.{keep_count, count_end, one_most}
+use mir.Val.{bool_byte}
+use Rattle.std.specs.Slice.Iter.{chunks_exact_rest, chunks_exact_size}
+use Rattle.lists.specs.Lists.{one, count}
+use Rattle.lists.proofs.Loops.{keep_count, count_most}
+use Rattle.blocks.specs.Record.{step_kind}
 use Rattle.replay.specs.Replay.{record_list}
-use Rattle.replay.proofs.Records.{records_length, records_at, count_turn}
+use Rattle.replay.proofs.Records.{records_length}
+use Rattle.replay.proofs.Chunks.{records_cons, records_none}
 use Rattle.opening.proofs.step_count.Invariants.{of_step}
 use Rattle.opening.proofs.step_count.Goals as goal
+use Rattle.opening.proofs.step_count.Goals.{After-from-count}
 
--- the record that a turn reads
-abbrev part : List ℕ → ℕ → List ℕ
-part records i = take (16 * i + 16 - 16 * i) (drop (16 * i) records)
+-- the record of a turn counts as one, if it is a step
+module _ (c : After-from-count) where
+  one_more : c.from-count.result ≡ one (of_step c.in-Some.bytes.now)
+  one_more = c.from-count.ensures ∙ by c.step_kind.result ∙ ap one (c.step_kind.ensures ∙ ap step_kind c.byte.ensures)
+    where
+      by : (b : Bool) → bool_byte b ≡ one b
+      by true = refl
+      by false = refl
 
-pub loop-i-init : goal.loop-i-init
-loop-i-init c = (omega arith, omega arith, refl, omega arith)
+  turn : c.loop-bytes.count + c.from-count.result + count of_step (record_list (chunks_exact_rest c.next.new.self)) ≡ count of_step (record_list c.args.records.now)
+  unfolding count
+  turn =
+      let step = c.in-Some.ensures.steps in
+      let rows = ap (count of_step) (records_cons c.in-Some.bytes.now _ step.1.0 (step.1.1 ∙ c.loop-bytes.invariant.0)) in
+      omega (arith, one_more, rows, c.loop-bytes.invariant.1)
+
+pub loop-bytes-init : goal.loop-bytes-init
+loop-bytes-init c = let items = c.chunks_exact-bytes-items.ensures in
+    let given = c.into_iter-bytes-iterator.ensures.into_iter_gives in
+    (ap chunks_exact_size given ∙ items.size, zero-add _ ∙ ap (λ (bytes : List ℕ). count of_step (record_list bytes)) (ap chunks_exact_rest given ∙ items.rest))
 
 pub overflow_add-count : goal.overflow_add-count
-overflow_add-count c = omega (arith, c.loop-i.invariant.1, c.loop-i.invariant.2, c.loop-i-test.true, c.one_step-count.ensures, one_most (of_step (part c.args.records.now c.loop-i.i)))
+overflow_add-count c = omega (arith, turn (goal.at.overflow_add-count c).After-from-count, count_most of_step (record_list c.args.records.now), records_length c.args.records.now, c.well_formed)
 
-pub loop-i-preserved : goal.loop-i-preserved
-loop-i-preserved c = let bytes : List ℕ = c.args.records.now in
-    let width : 16 * c.loop-i.i + 16 - 16 * c.loop-i.i ≡ 16 = omega arith in
-    let here : get_or (record_list bytes) c.loop-i.i [] ≡ part bytes c.loop-i.i = records_at bytes c.loop-i.i (omega (arith, c.loop-i.invariant.2, c.loop-i-test.true)) ∙ sym (ap (λ (k : ℕ). take k (drop (16 * c.loop-i.i) bytes)) width) in (
-      omega arith,
-      omega (arith, c.loop-i.invariant.1, c.one_step-count.ensures, one_most (of_step (part bytes c.loop-i.i))),
-      c.loop-i.invariant.2,
-      ap (λ (k : ℕ). c.loop-i.count + k + count of_step (drop (c.loop-i.i + 1) (record_list bytes))) c.one_step-count.ensures
-          ∙ count_turn of_step (record_list bytes) c.loop-i.i [] c.loop-i.count c.loop-i.invariant.3 here (omega (arith, c.loop-i.invariant.2, c.loop-i-test.true, records_length bytes)),
-    )
+pub loop-bytes-preserved : goal.loop-bytes-preserved
+loop-bytes-preserved c = (c.in-Some.ensures.steps.0 ∙ c.loop-bytes.invariant.0, turn (goal.at.loop-bytes-preserved c).After-from-count)
 
 pub returns : goal.returns
-returns c = let bytes : List ℕ = c.args.records.now in (
-  count_end of_step (record_list bytes) c.loop-i.i c.loop-i.count c.loop-i.invariant.3 (omega (arith, c.loop-i.invariant.2, c.loop-i-test.false, records_length bytes)) ∙ sym (keep_count of_step (record_list bytes)),
-  omega (arith, c.loop-i.invariant.0, c.loop-i.invariant.1, c.loop-i.invariant.2),
-)
-
-pub overflow_mul-from : goal.overflow_mul-from
-overflow_mul-from c = omega arith
-
-pub overflow_add-to : goal.overflow_add-to
-overflow_add-to c = omega arith
-
-pub slice_bounds-one_step-count : goal.slice_bounds-one_step-count
-slice_bounds-one_step-count c = omega arith
-
-pub slice_bounds-one_step-start : goal.slice_bounds-one_step-start
-slice_bounds-one_step-start c = omega arith
-
-pub slice_bounds-one_step-end : goal.slice_bounds-one_step-end
-slice_bounds-one_step-end c = omega arith
-
-pub overflow_add-i : goal.overflow_add-i
-overflow_add-i c = omega arith
-
-pub loop-i-smaller : goal.loop-i-smaller
-loop-i-smaller c = omega arith
+unfolding count
+returns c = let rows : List (List ℕ) = record_list c.args.records.now in
+    let none = ap (count of_step) (records_none (chunks_exact_rest c.loop-bytes.bytes-iterator) (omega (arith, c.in-None.ensures.steps.1.0, c.loop-bytes.invariant.0))) in
+    let all : c.loop-bytes.count ≡ count of_step rows = omega (arith, none, c.loop-bytes.invariant.1) in
+    (all ∙ sym (keep_count of_step rows), omega (arith, none, c.loop-bytes.invariant.1, count_most of_step rows, records_length c.args.records.now))

@@ -2,8 +2,8 @@
 use mathlib.Core.Path.{◌≡◌}
 use mathlib.Core.Bool.{Bool}
 use mathlib.Core.List.{List}
-use Prim.Native.Nat.{ℕ, ◌+◌, ◌-◌, ◌/◌, ◌≤◌}
-use lib.ListN.{length, drop}
+use Prim.Native.Nat.{ℕ, ◌+◌}
+use Rattle.std.specs.Slice.Iter.{chunks_exact_rest, chunks_exact_size}
 use Rattle.lists.specs.Lists.{count}
 use Rattle.blocks.specs.Record.{kind_of, step_kind}
 use Rattle.replay.specs.Replay.{record_list}
@@ -13,8 +13,5 @@ use Rattle.opening.proofs.step_count.Given as goal
 abbrev pub of_step : List ℕ → Bool
 of_step r = step_kind (kind_of r)
 
-abbrev pub invariant-loop-i : goal.invariant-loop-i
-invariant-loop-i l = (l.i ≤ l.total) × (l.count ≤ l.i) × (l.total ≡ length l.records / 16) × (l.count + count of_step (drop l.i (record_list l.records)) ≡ count of_step (record_list l.records))
-
-abbrev pub decreases-loop-i : goal.decreases-loop-i
-decreases-loop-i l = l.total - l.i
+abbrev pub invariant-loop-bytes : goal.invariant-loop-bytes
+invariant-loop-bytes l = (chunks_exact_size l.bytes-iterator ≡ 16) × (l.count + count of_step (record_list (chunks_exact_rest l.bytes-iterator)) ≡ count of_step (record_list l.records))

@@ -1,21 +1,14 @@
--- `is_free` meets its contract: no party passed so far stands against the lock. Assumes nothing.
-use mathlib.Core.Path.{refl, sym, ap, ◌∙◌}
-use mathlib.Core.Bool.{not}
-use borrow.Author.Rules.{rules}
-use Rattle.lists.specs.Lists.{any_below}
-use Rattle.lists.proofs.Bounded.{any_next, any_stop, any_end}
-use Rattle.parties.proofs.is_free.Invariants.{test}
+-- `is_free` meets its contract: the entries are those of the parties. Assumes nothing.
+use Rattle.std.proofs.Common.{◌≡◌, not, ap, ◌||◌, length, rules}
+use borrow.Author.Tests.{tests}
+use Rattle.locks.specs.declared.Stage.{Stage}
+use Rattle.locks.specs.Stages.{against_holder, against_waiter}
+use Rattle.parties.proofs.Stages.{some_stage}
 use Rattle.parties.proofs.is_free.Goals as goal
+use Rattle.parties.proofs.is_free.Goals.{Start}
 
-pub loop-i-init : goal.loop-i-init
-unfolding any_below
-loop-i-init c = (search rules, refl)
-
-pub returns-then-stands_against : goal.returns-then-stands_against
-returns-then-stands_against c = sym (ap not (any_stop (test c.args.entries c.args.l) 32 c.loop-i.i c.loop-i-test.true (sym c.stands_against.ensures ∙ c.if-stands_against.true)))
-
-pub loop-i-preserved : goal.loop-i-preserved
-loop-i-preserved c = (search rules, any_next (test c.args.entries c.args.l) c.loop-i.i c.loop-i.invariant.1 (sym c.stands_against.ensures ∙ c.if-stands_against.false))
+long : (c : Start) → length c.args.entries ≡ 32
+long c = search rules
 
 pub returns : goal.returns
-returns c = ap not (any_end (test c.args.entries c.args.l) 32 c.loop-i.i c.loop-i.invariant.1 c.loop-i.invariant.0 c.loop-i-test.false)
+returns c = ap not (some_stage (λ (s : Stage). against_holder c.args.l s || against_waiter c.args.l s) c.args.entries (long (goal.at.returns c).Start) (cc) c.any.ensures.ran (λ x b q k. search (rules, tests)))

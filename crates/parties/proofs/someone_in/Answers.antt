@@ -1,21 +1,14 @@
--- `someone_in` meets its contract: no party passed so far holds or waits. Assumes nothing.
-use mathlib.Core.Path.{refl, sym, ap, ◌∙◌}
-use mathlib.Core.Bool.{not}
-use borrow.Author.Rules.{rules}
-use Rattle.lists.specs.Lists.{any_below}
-use Rattle.lists.proofs.Bounded.{any_next, any_stop, any_end}
-use Rattle.parties.proofs.someone_in.Invariants.{test}
+-- `someone_in` meets its contract: the entries are those of the parties. Assumes nothing.
+use Rattle.std.proofs.Common.{◌≡◌, not, length, rules}
+use borrow.Author.Tests.{tests}
+use Rattle.locks.specs.declared.Stage.{Stage}
+use Rattle.locks.specs.Stages.{is_out}
+use Rattle.parties.proofs.Stages.{some_stage}
 use Rattle.parties.proofs.someone_in.Goals as goal
+use Rattle.parties.proofs.someone_in.Goals.{Start}
 
-pub loop-i-init : goal.loop-i-init
-unfolding any_below
-loop-i-init c = (search rules, refl)
-
-pub returns-then-not-is_out : goal.returns-then-not-is_out
-returns-then-not-is_out c = sym (any_stop (test c.args.entries) 32 c.loop-i.i c.loop-i-test.true (ap not (sym c.is_out.ensures) ∙ c.if-not-is_out.true-raw))
-
-pub loop-i-preserved : goal.loop-i-preserved
-loop-i-preserved c = (search rules, any_next (test c.args.entries) c.loop-i.i c.loop-i.invariant.1 (ap not (sym c.is_out.ensures) ∙ c.if-not-is_out.false-raw))
+long : (c : Start) → length c.args.entries ≡ 32
+long c = search rules
 
 pub returns : goal.returns
-returns c = any_end (test c.args.entries) 32 c.loop-i.i c.loop-i.invariant.1 c.loop-i.invariant.0 c.loop-i-test.false
+returns c = some_stage (λ (s : Stage). not (is_out s)) c.args.entries (long (goal.at.returns c).Start) (cc) c.any.ensures.ran (λ x b q k. search (rules, tests))

@@ -6,7 +6,7 @@ use Rattle.reach_sets.proofs.Joinings.{Settling}
 use Rattle.reach_sets.proofs.join_all.Given as goal
 
 abbrev pub invariant-loop-on : goal.invariant-loop-on
-invariant-loop-on l = Settling (edges_of l.edges l.edge_count) l.initial.table l.on l.table
+invariant-loop-on l = Settling (edges_of l.edges.numbers.now l.edges.count) l.initial.table l.on l.table
 
 abbrev pub decreases-loop-on : goal.decreases-loop-on
 decreases-loop-on l = one_if l.on (room l.table)

@@ -2,8 +2,5 @@
 use Rattle.reach_sets.proofs.Joinings.{Joining}
 use Rattle.reach_sets.proofs.join_once.Given as goal
 
-abbrev pub invariant-loop-left : goal.invariant-loop-left
-invariant-loop-left l = Joining l.edges l.edge_count l.initial.table l.left l.grown l.table
-
-abbrev pub decreases-loop-left : goal.decreases-loop-left
-decreases-loop-left l = l.left
+abbrev pub invariant-loop-e : goal.invariant-loop-e
+invariant-loop-e l = Joining l.edges.numbers.now l.edges.count l.initial.table l.e l.grown l.table

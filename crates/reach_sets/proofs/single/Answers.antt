@@ -7,4 +7,4 @@ use Rattle.reach_sets.proofs.Bits.{one_shl}
 use Rattle.reach_sets.proofs.single.Goals as goal
 
 pub returns : goal.returns
-returns c = ap (λ (w : ℕ). record { words = set (replicate 4 0) (c.args.node / 64) w }) (one_shl (c.args.node % 64) (omega arith))
+returns c = rw c.none-set.ensures (ap (λ (w : ℕ). record { words = set (replicate 4 0) (c.args.node / 64) w }) (one_shl (c.args.node % 64) (omega arith)))

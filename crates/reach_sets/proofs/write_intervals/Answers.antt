@@ -17,14 +17,14 @@ use Rattle.reach_sets.proofs.write_intervals.Goals.{Start}
 
 -- what is known from the start
 module _ (c : Start) where
-  promise : Promise c.args.n (edges_of c.args.edges.now c.args.edge_count)
-  promise = promised c.args.n c.args.edges.now c.args.edge_count c.requires.legal
+  promise : Promise c.args.n (edges_of c.args.edges.now.numbers.now c.args.edges.now.count)
+  promise = promised c.args.n c.args.edges.now.numbers.now c.args.edges.now.count c.requires.legal
 
   words_room : 4 * c.args.n ≤ length c.args.words.now
   words_room = omega (arith, promise.few, c.requires.room)
 
   numbers_long : length c.args.numbers.now ≡ c.args.n
-  numbers_long = ap length c.requires.numbered ∙ numbering_long c.args.n (edges_of c.args.edges.now c.args.edge_count) promise
+  numbers_long = ap length c.requires.numbered ∙ numbering_long c.args.n (edges_of c.args.edges.now.numbers.now c.args.edges.now.count) promise
 
   places_long : length (take (2 * c.args.n) c.args.places.now) ≡ 2 * c.args.n
   places_long = length-take-le (2 * c.args.n) c.args.places.now c.requires.enough
@@ -51,11 +51,11 @@ pub returns : goal.returns
 returns c =
     let s = (goal.at.returns c).Start in
     record {
-      places_after = laid (2 * c.args.n) (interval_table c.args.n (edges_of c.args.edges.now c.args.edge_count)) c.write_spans.new.places c.args.places.now
-          (c.write_spans.ensures c.args.n (edges_of c.args.edges.now c.args.edge_count)
+      places_after = laid (2 * c.args.n) (interval_table c.args.n (edges_of c.args.edges.now.numbers.now c.args.edges.now.count)) c.write_spans.new.places c.args.places.now
+          (c.write_spans.ensures c.args.n (edges_of c.args.edges.now.numbers.now c.args.edges.now.count)
           (record {
             few = (promise s).few;
-            sets = λ x h. ap (λ (t : List ℕ). set_at (t ++ drop (4 * c.args.n) c.args.words.now) x) c.fill.ensures ∙ table_set c.args.n (edges_of c.args.edges.now c.args.edge_count) (drop (4 * c.args.n) c.args.words.now) x h;
+            sets = λ x h. ap (λ (t : List ℕ). set_at (t ++ drop (4 * c.args.n) c.args.words.now) x) c.fill.ensures ∙ table_set c.args.n (edges_of c.args.edges.now.numbers.now c.args.edges.now.count) (drop (4 * c.args.n) c.args.words.now) x h;
             numbered = c.requires.numbered;
             each = numbers_long s;
           }))

@@ -4,6 +4,3 @@ use Rattle.reach_sets.proofs.write_spans.Given as goal
 
 abbrev pub invariant-loop-node : goal.invariant-loop-node
 invariant-loop-node l = Writing l.words l.numbers l.initial.places l.node l.places
-
-abbrev pub decreases-loop-node : goal.decreases-loop-node
-decreases-loop-node l = l.node

@@ -7,7 +7,7 @@ use lib.ListN.{length, take, drop, length-append}
 use lib.Seq.{length-take-le, take-append_seam}
 use Rattle.lists.specs.Lists.{over}
 use Rattle.blocks.specs.Record.{names_in}
-use Rattle.locks.specs.Lent.{lent}
+use Rattle.locks.specs.Lent.{lent_in}
 use Rattle.locks.specs.Locks.{mode_numbered}
 use Rattle.replay.proofs.Outcomes.{entered_performs}
 use Rattle.replay.proofs.perform_enter.Goals as goal
@@ -32,7 +32,7 @@ returns c = let bytes : List ℕ = c.args.bytes.now in
     let put : List ℕ = c.put_names-k.new.names in
     let names : take c.put_names-k.result put ≡ names_in bytes
     = ap (λ (k : ℕ). take k put) c.put_names-k.ensures.0 ∙ ap (take (length (names_in bytes))) c.put_names-k.ensures.1 ∙ take-over (names_in bytes) _ in
-    entered_performs (lent c.args.n c.args.intervals.now c.args.edges.now c.args.edge_count) c.args.desk bytes c.byte-party.result c.byte-party.ensures
-    c.mode_when-mode.result (take c.put_names-k.result put) c.byte-name_count.result
-    (c.mode_when-mode.ensures ∙ ap mode_numbered c.byte-m.ensures) names c.byte-name_count.ensures
-    c.enter-step.result c.entered-outcome.result c.enter-step.ensures c.entered-outcome.ensures
+    λ values. rw c.plain.ensures (entered_performs (lent_in c.args.tables.now) c.args.desk bytes c.from-party.result (c.from-party.ensures ∙ c.byte.ensures)
+    c.mode_when-mode.result (take c.put_names-k.result put) c.from-name_count.result
+    (c.mode_when-mode.ensures ∙ ap mode_numbered c.byte-m.ensures) names (c.from-name_count.ensures ∙ c.byte-2.ensures)
+    c.enter-step.result c.from.result c.enter-step.ensures c.from.ensures values)

@@ -1,62 +1,66 @@
 -- `put_edges` meets its contract: the edges left, written over the table as it is now, give the table with all of them. Assumes nothing.
-use mathlib.Core.Path.{◌≡◌, refl, ap, ◌∙◌}
-use mathlib.Core.List.{List, []}
-use Prim.Native.Nat.{ℕ, ◌+◌, ◌/◌, ◌≤◌, ◌<◌}
+use mathlib.Core.Path.{◌≡◌, refl, sym, ap, ◌∙◌}
+use mathlib.Core.List.{List, ◌∷◌}
+use Prim.Native.Nat.{ℕ, ◌+◌}
 use native.Mathlib.Omega.{arith}
-use lib.ListN.{length, drop}
+use lib.ListN.{length}
+use Rattle.std.specs.Slice.Iter.{chunks_exact_rest, chunks_exact_size}
+use Rattle.lists.specs.Lists.{over}
 use Rattle.octets.specs.Writes.{over_at}
 use Rattle.octets.proofs.Writes.{over_first, length_over}
 use Rattle.replay.specs.Replay.{record_list, edge_table}
-use Rattle.replay.specs.Inner.{record_at, edge_of}
-use Rattle.replay.proofs.Records.{records_length, records_at, edge_table_length, table_length_step, table_turn, table_end}
-use Rattle.replay.proofs.put_edges.Invariants.{left}
+use Rattle.replay.specs.Inner.{edge_of}
+use Rattle.replay.proofs.Records.{edge_table_length, table_length_step, table_turn, table_end}
+use Rattle.replay.proofs.Chunks.{records_cons, records_none}
 use Rattle.replay.proofs.put_edges.Goals as goal
+use Rattle.replay.proofs.put_edges.Goals.{In-Some}
 
--- the record at i, and its edge
-module _ (bytes : List ℕ) (i : ℕ) (h : i < length bytes / 16) where
-  here : lib.ListN.get_or (record_list bytes) i [] ≡ record_at bytes i
-  here = records_at bytes i h
+-- the record of a turn, and those behind it
+module _ (c : In-Some) where
+  abbrev r : List ℕ
+  r = c.in-Some.bytes.now
 
-  inside : i < length (record_list bytes)
-  inside = omega (arith, records_length bytes)
+  abbrev left : List (List ℕ)
+  left = record_list (chunks_exact_rest c.next.new.self)
 
-  pub step-length : length (left bytes i) ≡ length (edge_of (record_at bytes i)) + length (left bytes (i + 1))
-  step-length = table_length_step (record_list bytes) i here inside
+  rows : record_list (chunks_exact_rest c.loop-bytes.bytes-iterator) ≡ r ∷ left
+  rows = let step = c.in-Some.ensures.steps in records_cons r _ step.1.0 (step.1.1 ∙ c.loop-bytes.invariant.0)
 
-  pub step-turn : (at : ℕ) (table : List ℕ) → at + length (left bytes i) ≤ length table
-      → over_at (at + length (edge_of (record_at bytes i))) (left bytes (i + 1)) (over_at at (edge_of (record_at bytes i)) table) ≡ over_at at (left bytes i) table
-  step-turn at table fits = table_turn (record_list bytes) i here inside at table fits
+  more : length (edge_table (record_list (chunks_exact_rest c.loop-bytes.bytes-iterator))) ≡ length (edge_of r) + length (edge_table left)
+  more = ap (λ (rs : List (List ℕ)). length (edge_table rs)) rows ∙ table_length_step r left
 
-pub loop-i-init : goal.loop-i-init
-loop-i-init c = (omega arith, refl, refl, omega (arith, edge_table_length (record_list c.args.records.now), c.requires), over_first (edge_table (record_list c.args.records.now)) c.args.table.now)
+  turn : over_at (c.loop-bytes.at + length (edge_of r)) (edge_table left) (over_at c.loop-bytes.at (edge_of r) c.loop-bytes.table) ≡ over (edge_table (record_list c.args.records.now)) c.args.table.now
+  turn =
+      table_turn r left c.loop-bytes.at c.loop-bytes.table (omega (arith, table_length_step r left, more, c.loop-bytes.invariant.2))
+      ∙ ap (λ (rs : List (List ℕ)). over_at c.loop-bytes.at (edge_table rs) c.loop-bytes.table) (sym rows)
+      ∙ c.loop-bytes.invariant.3
 
-pub put_edge-at-requires : goal.put_edge-at-requires
-put_edge-at-requires c = let h : c.loop-i.i < length c.args.records.now / 16 = omega (arith, c.loop-i.invariant.1, c.loop-i-test.true) in
-    (omega (arith, c.loop-i.invariant.1, c.loop-i-test.true), omega (arith, c.loop-i.invariant.3, step-length c.args.records.now c.loop-i.i h))
-
-pub loop-i-preserved : goal.loop-i-preserved
-loop-i-preserved c = let h : c.loop-i.i < length c.args.records.now / 16 = omega (arith, c.loop-i.invariant.1, c.loop-i-test.true) in
-    let e : List ℕ = edge_of (record_at c.args.records.now c.loop-i.i) in
-    let more = step-length c.args.records.now c.loop-i.i h in
-    let same : length c.put_edge-at.new.table ≡ length c.loop-i.table
-    = ap length c.put_edge-at.ensures.1 ∙ length_over c.loop-i.table c.loop-i.at e (omega (arith, c.loop-i.invariant.3, more)) in (
-      omega arith,
+pub loop-bytes-init : goal.loop-bytes-init
+loop-bytes-init c = let items = c.chunks_exact-bytes-items.ensures in
+    let given = c.into_iter-bytes-iterator.ensures.into_iter_gives in
+    let whole = ap (λ (bytes : List ℕ). edge_table (record_list bytes)) (ap chunks_exact_rest given ∙ items.rest) in (
+      ap chunks_exact_size given ∙ items.size,
       refl,
-      same ∙ c.loop-i.invariant.2,
-      omega (arith, same, more, c.loop-i.invariant.3, c.put_edge-at.ensures.0),
-      ap (λ (k : ℕ). over_at k (left c.args.records.now (c.loop-i.i + 1)) c.put_edge-at.new.table) c.put_edge-at.ensures.0
-          ∙ ap (λ (t : List ℕ). over_at (c.loop-i.at + length e) (left c.args.records.now (c.loop-i.i + 1)) t) c.put_edge-at.ensures.1
-          ∙ step-turn c.args.records.now c.loop-i.i h c.loop-i.at c.loop-i.table c.loop-i.invariant.3 ∙ c.loop-i.invariant.4,
+      omega (arith, ap length whole, edge_table_length (record_list c.args.records.now), c.requires),
+      ap (λ (t : List ℕ). over_at 0 t c.args.table.now) whole ∙ over_first (edge_table (record_list c.args.records.now)) c.args.table.now,
     )
 
-pub shape_of-table : goal.shape_of-table
-shape_of-table c = c.loop-i.invariant.2
+pub put_edge-at-requires : goal.put_edge-at-requires
+put_edge-at-requires c = omega (arith, c.loop-bytes.invariant.2, more (goal.at.put_edge-at-requires c).In-Some)
+
+pub loop-bytes-preserved : goal.loop-bytes-preserved
+loop-bytes-preserved c = let i : In-Some = (goal.at.loop-bytes-preserved c).In-Some in
+    let e : List ℕ = edge_of c.in-Some.bytes.now in
+    let same : length c.put_edge-at.new.table ≡ length c.loop-bytes.table
+    = ap length c.put_edge-at.ensures.1 ∙ length_over c.loop-bytes.table c.loop-bytes.at e (omega (arith, c.loop-bytes.invariant.2, more i)) in (
+      c.in-Some.ensures.steps.0 ∙ c.loop-bytes.invariant.0,
+      same ∙ c.loop-bytes.invariant.1,
+      omega (arith, same, more i, c.loop-bytes.invariant.2, c.put_edge-at.ensures.0),
+      ap (λ (k : ℕ). over_at k (edge_table (left i)) c.put_edge-at.new.table) c.put_edge-at.ensures.0
+          ∙ ap (λ (t : List ℕ). over_at (c.loop-bytes.at + length e) (edge_table (left i)) t) c.put_edge-at.ensures.1
+          ∙ turn i,
+    )
 
 pub returns : goal.returns
-returns c = table_end (record_list c.args.records.now) c.loop-i.i c.loop-i.at c.loop-i.table (omega (arith, c.loop-i.invariant.1, c.loop-i-test.false, records_length c.args.records.now)) ∙ c.loop-i.invariant.4
-
-pub overflow_add-i : goal.overflow_add-i
-overflow_add-i c = omega arith
-
-pub loop-i-smaller : goal.loop-i-smaller
-loop-i-smaller c = omega arith
+returns c = let none = records_none (chunks_exact_rest c.loop-bytes.bytes-iterator) (omega (arith, c.in-None.ensures.steps.1.0, c.loop-bytes.invariant.0)) in
+    table_end c.loop-bytes.at c.loop-bytes.table ∙ ap (λ (rs : List (List ℕ)). over_at c.loop-bytes.at (edge_table rs) c.loop-bytes.table) (sym none) ∙ c.loop-bytes.invariant.3

@@ -1,15 +1,10 @@
 -- `put_names` meets its contract: the names left, written over the places as they are now, give the places with all of them. Assumes nothing.
 use mathlib.Core.Path.{◌≡◌}
-use Prim.Native.Nat.{◌-◌, ◌≤◌}
-use lib.ListN.{length, drop}
+use lib.ListN.{drop}
 use Rattle.lists.specs.Lists.{over}
 use Rattle.blocks.specs.Record.{names_in}
 use Rattle.octets.specs.Writes.{over_at}
 use Rattle.replay.proofs.put_names.Given as goal
 
 abbrev pub invariant-loop-i : goal.invariant-loop-i
-invariant-loop-i l = (l.i ≤ l.count) × (l.count ≡ length (names_in l.bytes)) × (l.count ≤ 255) × (255 ≤ length l.initial.names) × (length l.names ≡ length l.initial.names)
-    × (over_at l.i (drop l.i (names_in l.bytes)) l.names ≡ over (names_in l.bytes) l.initial.names)
-
-abbrev pub decreases-loop-i : goal.decreases-loop-i
-decreases-loop-i l = l.count - l.i
+invariant-loop-i l = (over_at l.i (drop l.i (names_in l.bytes)) l.names ≡ over (names_in l.bytes) l.initial.names)

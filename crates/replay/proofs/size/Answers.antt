@@ -6,5 +6,5 @@ use Rattle.replay.proofs.size.Goals as goal
 pub returns-then-records-lt-RECORD : goal.returns-then-records-lt-RECORD
 returns-then-records-lt-RECORD c = sym (size_none c.args.records.now c.if-records-lt-RECORD.true)
 
-pub returns : goal.returns
-returns c = c.number2.ensures.0 ∙ sym (size_some c.args.records.now c.if-records-lt-RECORD.false)
+pub returns-else-records-lt-RECORD : goal.returns-else-records-lt-RECORD
+returns-else-records-lt-RECORD c = c.number2.ensures.0 ∙ sym (size_some c.args.records.now c.if-records-lt-RECORD.false)

@@ -1,58 +1,36 @@
 -- `values` meets its contract: the values after the records left, from those now, are the values after all records from zeros. Assumes nothing.
 use mathlib.Core.Path.{◌≡◌, refl, sym, ap, ◌∙◌}
 use mathlib.Core.List.{List}
-use Prim.Native.Nat.{ℕ, ◌+◌, ◌*◌, ◌-◌}
+use Prim.Native.Nat.{ℕ}
 use native.Mathlib.Omega.{arith}
-use lib.ListN.{length, take, drop, replicate, length-replicate}
+use lib.ListN.{length, replicate}
+use Rattle.std.specs.Slice.Iter.{chunks_exact_rest, chunks_exact_size}
 use Rattle.replay.specs.Replay.{record_list, values_from, values_in}
-use Rattle.replay.proofs.Records.{with_length, values_turn, values_end}
+use Rattle.replay.proofs.Records.{with_length}
+use Rattle.replay.proofs.Chunks.{records_cons, records_none}
 use Rattle.replay.proofs.values.Goals as goal
 
--- as many zeros as there are places
-zeros-long : (places : List ℕ) {zeros : List ℕ} → zeros ≡ replicate (length places) 0 → length zeros ≡ length places
-zeros-long places e = ap length e ∙ length-replicate (length places) 0
+pub loop-bytes-init : goal.loop-bytes-init
+loop-bytes-init c = let items = c.chunks_exact-bytes-items.ensures in
+    let given = c.into_iter-bytes-iterator.ensures.into_iter_gives in
+    let zeros : c.fill.new.self ≡ replicate (length c.fill.new.self) 0 = c.fill.ensures.after (λ y e. e) ∙ ap (λ (n : ℕ). replicate n 0) (sym c.fill.ensures.len) in (
+      ap chunks_exact_size given ∙ items.size,
+      refl,
+      ap (λ (bytes : List ℕ). values_from c.fill.new.self (record_list bytes)) (ap chunks_exact_rest given ∙ items.rest) ∙ ap (λ (l : List ℕ). values_from l (record_list c.args.records.now)) zeros,
+    )
 
-pub loop-i-init : goal.loop-i-init
-loop-i-init c = (
-  omega arith,
-  refl,
-  refl,
-  ap (λ (values : List ℕ). values_from values (record_list c.args.records.now)) (c.clear_words.ensures ∙ ap (λ (n : ℕ). replicate n 0) (sym (zeros-long c.args.places.now c.clear_words.ensures))),
-)
-
-pub loop-i-preserved : goal.loop-i-preserved
-loop-i-preserved c = (
-  omega arith,
-  c.loop-i.invariant.1,
-  ap length c.put_value.ensures ∙ with_length c.loop-i.places (take (16 * c.loop-i.i + 16 - 16 * c.loop-i.i) (drop (16 * c.loop-i.i) c.args.records.now)) ∙ c.loop-i.invariant.2,
-  ap (λ (values : List ℕ). values_from values (drop (c.loop-i.i + 1) (record_list c.args.records.now))) c.put_value.ensures
-      ∙ values_turn c.args.records.now c.loop-i.i c.loop-i.places (omega (arith, c.loop-i.invariant.1, c.loop-i-test.true)) c.loop-i.invariant.3,
-)
-
-pub shape_of-places : goal.shape_of-places
-shape_of-places c = c.loop-i.invariant.2 ∙ zeros-long c.args.places.now c.clear_words.ensures
+pub loop-bytes-preserved : goal.loop-bytes-preserved
+unfolding values_from
+loop-bytes-preserved c = let step = c.in-Some.ensures.steps in
+    let rows = records_cons c.in-Some.bytes.now _ step.1.0 (step.1.1 ∙ c.loop-bytes.invariant.0) in (
+      step.0 ∙ c.loop-bytes.invariant.0,
+      ap length c.put_value.ensures ∙ with_length c.loop-bytes.places c.in-Some.bytes.now ∙ c.loop-bytes.invariant.1,
+      ap (λ (l : List ℕ). values_from l (record_list (chunks_exact_rest c.next.new.self))) c.put_value.ensures
+          ∙ ap (values_from c.loop-bytes.places) (sym rows)
+          ∙ c.loop-bytes.invariant.2,
+    )
 
 pub returns : goal.returns
-returns c = values_end c.args.records.now c.loop-i.i c.loop-i.places (omega (arith, c.loop-i.invariant.1, c.loop-i-test.false)) c.loop-i.invariant.3
-    ∙ ap (λ (n : ℕ). values_in n (record_list c.args.records.now)) (zeros-long c.args.places.now c.clear_words.ensures)
-
-pub overflow_mul-from : goal.overflow_mul-from
-overflow_mul-from c = omega arith
-
-pub overflow_add-to : goal.overflow_add-to
-overflow_add-to c = omega arith
-
-pub slice_bounds-put_value-count : goal.slice_bounds-put_value-count
-slice_bounds-put_value-count c = omega arith
-
-pub slice_bounds-put_value-start : goal.slice_bounds-put_value-start
-slice_bounds-put_value-start c = omega arith
-
-pub slice_bounds-put_value-end : goal.slice_bounds-put_value-end
-slice_bounds-put_value-end c = omega arith
-
-pub overflow_add-i : goal.overflow_add-i
-overflow_add-i c = omega arith
-
-pub loop-i-smaller : goal.loop-i-smaller
-loop-i-smaller c = omega arith
+unfolding values_from
+returns c = let none = records_none (chunks_exact_rest c.loop-bytes.bytes-iterator) (omega (arith, c.in-None.ensures.steps.1.0, c.loop-bytes.invariant.0)) in
+    ap (values_from c.loop-bytes.places) (sym none) ∙ c.loop-bytes.invariant.2 ∙ ap (λ (n : ℕ). values_in n (record_list c.args.records.now)) c.fill.ensures.len

@@ -11,43 +11,26 @@ use Rattle.shorter.proofs.Puts.{left, left_length, left_turn, left_end, value_fe
 use Rattle.shorter.proofs.put_values.Goals as goal
 
 pub loop-node-init : goal.loop-node-init
-loop-node-init c = (omega arith, refl, omega (arith, c.requires.1), refl, refl)
+loop-node-init c = (omega (arith, c.requires.1), refl, refl)
 
 pub put_value-to-requires : goal.put_value-to-requires
-put_value-to-requires c = (omega (arith, c.loop-node-test.true, c.requires.0), omega (arith, c.loop-node-test.true, c.loop-node.invariant.2))
+put_value-to-requires c = (omega (arith, c.loop-node-test.true, c.requires.0), omega (arith, c.loop-node-test.true, c.loop-node.invariant.0))
 
 pub loop-node-preserved : goal.loop-node-preserved
 loop-node-preserved c = let values : List ℕ = c.args.values.now in
     let here : List ℕ = value_bytes c.loop-node.node (get_or values c.loop-node.node 0) in
     let few = value_few c.loop-node.node (get_or values c.loop-node.node 0) in
-    let same : length c.put_value-to.new.room ≡ length c.loop-node.room = ap length c.put_value-to.ensures.1 ∙ length_over c.loop-node.room c.loop-node.to here (omega (arith, few, c.loop-node.invariant.2, c.loop-node-test.true)) in (
-      omega arith,
-      same ∙ c.loop-node.invariant.1,
-      omega (arith, same, few, c.loop-node.invariant.2, c.put_value-to.ensures.0, c.loop-node-test.true),
-      omega (arith, left_length values c.loop-node.node c.loop-node-test.true, c.put_value-to.ensures.0, c.loop-node.invariant.3),
+    let same : length c.put_value-to.new.room ≡ length c.loop-node.room = ap length c.put_value-to.ensures.1 ∙ length_over c.loop-node.room c.loop-node.to here (omega (arith, few, c.loop-node.invariant.0, c.loop-node-test.true)) in (
+      omega (arith, same, few, c.loop-node.invariant.0, c.put_value-to.ensures.0, c.loop-node-test.true),
+      omega (arith, left_length values c.loop-node.node c.loop-node-test.true, c.put_value-to.ensures.0, c.loop-node.invariant.1),
       ap (λ (k : ℕ). over_at k (left values (c.loop-node.node + 1)) c.put_value-to.new.room) c.put_value-to.ensures.0
           ∙ ap (λ (r : List ℕ). over_at (c.loop-node.to + length here) (left values (c.loop-node.node + 1)) r) c.put_value-to.ensures.1
-          ∙ left_turn values c.loop-node.node c.loop-node-test.true c.loop-node.to c.loop-node.room (omega (arith, few, c.loop-node.invariant.2, c.loop-node-test.true)) ∙ c.loop-node.invariant.4,
+          ∙ left_turn values c.loop-node.node c.loop-node-test.true c.loop-node.to c.loop-node.room (omega (arith, few, c.loop-node.invariant.0, c.loop-node-test.true)) ∙ c.loop-node.invariant.2,
     )
-
-pub shape_of-room : goal.shape_of-room
-shape_of-room c = c.loop-node.invariant.1
 
 pub returns : goal.returns
 returns c = let values : List ℕ = c.args.values.now in
     let e = left_end values c.loop-node.node c.loop-node-test.false in (
-      omega (arith, ap length e, c.loop-node.invariant.3),
-      sym (ap (λ (l : List ℕ). over_at c.loop-node.to l c.loop-node.room) e ∙ over_none c.loop-node.room c.loop-node.to) ∙ c.loop-node.invariant.4,
+      omega (arith, ap length e, c.loop-node.invariant.1),
+      sym (ap (λ (l : List ℕ). over_at c.loop-node.to l c.loop-node.room) e ∙ over_none c.loop-node.room c.loop-node.to) ∙ c.loop-node.invariant.2,
     )
-
-pub offset_bounds-values-node : goal.offset_bounds-values-node
-offset_bounds-values-node c = omega arith
-
-pub bounds-values-node : goal.bounds-values-node
-bounds-values-node c = omega arith
-
-pub overflow_add-node : goal.overflow_add-node
-overflow_add-node c = omega arith
-
-pub loop-node-smaller : goal.loop-node-smaller
-loop-node-smaller c = omega arith

@@ -8,8 +8,5 @@ use Rattle.shorter.proofs.Puts.{left}
 use Rattle.shorter.proofs.put_values.Given as goal
 
 abbrev pub invariant-loop-node : goal.invariant-loop-node
-invariant-loop-node l = (l.node ≤ length l.values) × (length l.room ≡ length l.initial.room) × (l.to + 16 * (length l.values - l.node) ≤ length l.room)
-    × (l.to + length (left l.values l.node) ≡ l.at + length (values_bytes l.values)) × (over_at l.to (left l.values l.node) l.room ≡ over_at l.at (values_bytes l.values) l.initial.room)
-
-abbrev pub decreases-loop-node : goal.decreases-loop-node
-decreases-loop-node l = length l.values - l.node
+invariant-loop-node l = (l.to + 16 * (length l.values - l.node) ≤ length l.room) × (l.to + length (left l.values l.node) ≡ l.at + length (values_bytes l.values))
+    × (over_at l.to (left l.values l.node) l.room ≡ over_at l.at (values_bytes l.values) l.initial.room)

@@ -1,20 +1,14 @@
--- `meets_holder` meets its contract: no party passed so far holds in conflict. Assumes nothing.
-use mathlib.Core.Path.{refl, sym, ◌∙◌}
-use borrow.Author.Rules.{rules}
-use Rattle.lists.specs.Lists.{any_below}
-use Rattle.lists.proofs.Bounded.{any_next, any_stop, any_end}
-use Rattle.sweeps.proofs.meets_holder.Invariants.{test}
+-- `meets_holder` meets its contract: the entries are those of the parties. Assumes nothing.
+use Rattle.std.proofs.Common.{◌≡◌, length, rules}
+use borrow.Author.Tests.{tests}
+use Rattle.locks.specs.declared.Stage.{Stage}
+use Rattle.locks.specs.Stages.{against_holder}
+use Rattle.parties.proofs.Stages.{some_stage}
 use Rattle.sweeps.proofs.meets_holder.Goals as goal
+use Rattle.sweeps.proofs.meets_holder.Goals.{Start}
 
-pub loop-i-init : goal.loop-i-init
-unfolding any_below
-loop-i-init c = (search rules, refl)
-
-pub returns-then-against_holder : goal.returns-then-against_holder
-returns-then-against_holder c = sym ((any_stop (test c.args.entries c.args.l) 32 c.loop-i.i c.loop-i-test.true (sym c.against_holder.ensures ∙ c.if-against_holder.true)))
-
-pub loop-i-preserved : goal.loop-i-preserved
-loop-i-preserved c = (search rules, any_next (test c.args.entries c.args.l) c.loop-i.i c.loop-i.invariant.1 (sym c.against_holder.ensures ∙ c.if-against_holder.false))
+long : (c : Start) → length c.args.entries.now ≡ 32
+long c = search rules
 
 pub returns : goal.returns
-returns c = (any_end (test c.args.entries c.args.l) 32 c.loop-i.i c.loop-i.invariant.1 c.loop-i.invariant.0 c.loop-i-test.false)
+returns c = some_stage (λ (s : Stage). against_holder c.args.l s) c.args.entries.now (long (goal.at.returns c).Start) (cc) c.any.ensures.ran (λ x b q k. search (rules, tests))

@@ -1,78 +1,38 @@
 -- `sweep` meets its contract: the waiters taken so far have left what the pass over them leaves. Assumes nothing.
-use mathlib.Core.Path.{◌≡◌, sym, ap, ◌∙◌}
-use Prim.Native.Nat.{◌≤◌}
-use native.Mathlib.Omega.{arith}
-use lib.ListN.{length, get_or, take}
-use lib.Seq.{get_or-take, length-take-le}
-use borrow.Author.Rules.{rules}
+use Rattle.std.proofs.Common.{◌≡◌, sym, ◌∙◌, ◌≤◌, arith, rules, length, take, get_or, ap, List, ℕ}
+use lib.ListN.{length-take}
 use Rattle.lists.proofs.Loops.{field_length}
-use Rattle.arrivals.proofs.Queues.{places_length, cut_take}
-use Rattle.sweeps.proofs.Sweeps.{passed, passing_start, passing_goes, passing_stays, passing_end}
+use Rattle.arrivals.specs.declared.Listed.{Listed}
+use Rattle.arrivals.specs.Arrivals.{pushed}
+use Rattle.sweeps.proofs.Sweeps.{passing_start, passing_goes, passing_stays}
 use Rattle.sweeps.proofs.sweep.Goals as goal
-use Rattle.sweeps.proofs.sweep.Goals.{At-loop-i, Start}
+use Rattle.sweeps.proofs.sweep.Goals.{Start, At-loop-party, After-may_go, then-may_go, else-may_go}
 
--- the waiters are as many as the loop goes through
 long : (c : Start) → length c.args.list.places ≡ 32
 long c = search (field_length, rules)
 
 entries-long : (c : Start) → length c.args.entries ≡ 32
 entries-long c = search rules
 
-many : (c : At-loop-i) → length (take c.cut-end.result c.args.list.places) ≡ c.cut-end.result
-many c = length-take-le c.cut-end.result c.args.list.places (omega (arith, long c.before.before.before, c.cut-end.ensures.0))
+few : (c : At-loop-party) → length (take c.min.result c.args.list.places) ≤ 32
+few c = simp length-take (omega (arith, c.min.ensures))
 
-few : (c : At-loop-i) → length (take c.cut-end.result c.args.list.places) ≤ 32
-few c = omega (arith, many c, c.cut-end.ensures.0)
+pub loop-party-init : goal.loop-party-init
+loop-party-init c = rw (c.none-stay.ensures, c.none-granted.ensures) (passing_start c.args.entries (take c.min.result c.args.list.places) (entries-long (goal.at.loop-party-init c).Start))
 
--- no more stay or go than were taken
-within : (c : At-loop-i) → (c.loop-i.kept ≤ c.loop-i.i) × (c.loop-i.gone ≤ c.loop-i.i) × (c.cut-end.result ≤ 32)
-within c = (omega (arith, c.loop-i.invariant.parted), omega (arith, c.loop-i.invariant.parted), c.cut-end.ensures.0)
+-- what is pushed is the party whose stage was read
+read : (c : After-may_go) → (r : Listed) → pushed r (get_or (take c.min.result c.args.list.places) c.loop-party.party-index 0) ≡ pushed r c.from-at.result
+read c r = ap (pushed r) (sym c.from-at.ensures)
 
-room : (c : At-loop-i) → length c.loop-i.stay ≡ 32
-room c = ap length c.loop-i.invariant.stays ∙ places_length (passed c.args.entries (take c.cut-end.result c.args.list.places) c.loop-i.i).stay
-
-pub loop-i-init : goal.loop-i-init
-loop-i-init c = passing_start c.args.entries (take c.cut-end.result c.args.list.places) (entries-long (goal.at.loop-i-init c).Start)
-
-pub bounds-queue-i : goal.bounds-queue-i
-bounds-queue-i c = omega (arith, c.cut-end.ensures.0)
-
-pub bounds-next-at : goal.bounds-next-at
-bounds-next-at c = omega (arith, c.place-at.ensures.0)
-
-pub slice_bounds-may_go-end : goal.slice_bounds-may_go-end
-slice_bounds-may_go-end c = sym (room (goal.at.slice_bounds-may_go-end c).At-loop-i)
-
-pub may_go-requires : goal.may_go-requires
-may_go-requires c = omega (arith, room (goal.at.may_go-requires c).At-loop-i, within (goal.at.may_go-requires c).At-loop-i, c.loop-i-test.true)
-
-pub bounds-next-at-then-may_go : goal.bounds-next-at-then-may_go
-bounds-next-at-then-may_go c = omega (arith, c.place-at.ensures.0)
-
-pub bounds-granted-gone : goal.bounds-granted-gone
-bounds-granted-gone c = omega (arith, within (goal.at.bounds-granted-gone c).At-loop-i, c.loop-i-test.true)
-
-pub overflow_add-gone : goal.overflow_add-gone
-overflow_add-gone c = omega (arith, within (goal.at.overflow_add-gone c).At-loop-i, c.loop-i-test.true)
-
-pub loop-i-preserved-then-may_go : goal.loop-i-preserved-then-may_go
-loop-i-preserved-then-may_go c = passing_goes c.args.entries (take c.cut-end.result c.args.list.places) (few (goal.at.loop-i-preserved-then-may_go c).At-loop-i) c.loop-i.next c.loop-i.stay c.loop-i.kept c.loop-i.granted c.loop-i.gone c.loop-i.i c.loop-i.invariant
-    (omega (arith, many (goal.at.loop-i-preserved-then-may_go c).At-loop-i, c.loop-i-test.true)) (get_or c.args.list.places c.loop-i.i 0) c.place-at.result (sym (get_or-take c.cut-end.result c.args.list.places c.loop-i.i 0 c.loop-i-test.true))
-    c.place-at.ensures.1 c.seated-s.result c.seated-s.ensures c.hold.result c.hold.ensures
-    (sym c.may_go.ensures ∙ c.if-may_go.true)
-
-pub bounds-stay-kept : goal.bounds-stay-kept
-bounds-stay-kept c = omega (arith, within (goal.at.bounds-stay-kept c).At-loop-i, c.loop-i-test.true)
-
-pub overflow_add-kept : goal.overflow_add-kept
-overflow_add-kept c = omega (arith, within (goal.at.overflow_add-kept c).At-loop-i, c.loop-i-test.true)
-
-pub loop-i-preserved : goal.loop-i-preserved
-loop-i-preserved c = passing_stays c.args.entries (take c.cut-end.result c.args.list.places) (few (goal.at.loop-i-preserved c).At-loop-i) c.loop-i.next c.loop-i.stay c.loop-i.kept c.loop-i.granted c.loop-i.gone c.loop-i.i c.loop-i.invariant
-    (omega (arith, many (goal.at.loop-i-preserved c).At-loop-i, c.loop-i-test.true)) (get_or c.args.list.places c.loop-i.i 0) c.place-at.result (sym (get_or-take c.cut-end.result c.args.list.places c.loop-i.i 0 c.loop-i-test.true))
-    c.place-at.ensures.1 c.seated-s.result c.seated-s.ensures
-    (sym c.may_go.ensures ∙ c.if-may_go.false)
-
-pub returns : goal.returns
-returns c = passing_end c.args.entries (take c.cut-end.result c.args.list.places) (few (goal.at.returns c).At-loop-i) c.loop-i.next c.loop-i.stay c.loop-i.kept c.loop-i.granted c.loop-i.gone c.loop-i.i c.loop-i.invariant
-    (omega (arith, many (goal.at.returns c).At-loop-i, c.loop-i-test.false)) (take c.args.list.count c.args.list.places) (cut_take c.args.list.places c.args.list.count c.cut-end.result (long (goal.at.returns c).Start) c.cut-end.ensures.1)
+pub loop-party-preserved : goal.loop-party-preserved
+loop-party-preserved c =
+    let items : List ℕ = take c.min.result c.args.list.places in
+    let known = few (goal.at.loop-party-preserved c).At-loop-party in
+    elim c.if-may_go.branch [
+      | then-may_go w ↦ rw (w.next-is, w.stay-is, w.granted-is) (passing_goes c.args.entries items known c.loop-party.next c.loop-party.stay c.loop-party.granted c.loop-party.party-index c.loop-party.invariant
+          c.loop-party-test.true c.from-at.result c.from-at.ensures c.stage-s.result c.stage-s.ensures w.hold.result w.hold.ensures (sym c.may_go.ensures ∙ w.if-may_go.true)
+          w.push.new.self (w.push.ensures ∙ read (goal.at.loop-party-preserved c).After-may_go c.loop-party.granted))
+      | else-may_go w ↦ rw (w.next-is, w.stay-is, w.granted-is) (passing_stays c.args.entries items known c.loop-party.next c.loop-party.stay c.loop-party.granted c.loop-party.party-index c.loop-party.invariant
+          c.loop-party-test.true c.from-at.result c.from-at.ensures c.stage-s.result c.stage-s.ensures (sym c.may_go.ensures ∙ w.if-may_go.false)
+          w.push-else-may_go.new.self (w.push-else-may_go.ensures ∙ read (goal.at.loop-party-preserved c).After-may_go c.loop-party.stay))
+    ]

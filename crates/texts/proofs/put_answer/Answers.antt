@@ -31,4 +31,4 @@ returns-in-Left c = told c.args.parties.now c.args.at c.args.text.now
 
 pub returns-in-Refused : goal.returns-in-Refused
 returns-in-Refused c = told c.args.parties.now c.args.at c.args.text.now
-    c.in-Refused.is c.put_word_number-in-Refused.ensures
+    c.in-Refused.is (rw c.from.ensures at c.put_word_number-in-Refused.ensures)

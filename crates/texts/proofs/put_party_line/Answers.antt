@@ -16,4 +16,4 @@ returns-then-count-eq0 c = ap (λ (b : Bool). put (cond b [] (party_line c.args.
 pub returns : goal.returns
 returns c = puts_as c.args.at c.args.text.now (ap (λ (b : Bool). cond b [] (party_line c.args.party c.args.count)) (sym (ne_eqb _ _ c.if-count-eq0.false)))
     (puts_two c.args.at (party_word ++ decimal c.args.party) ((space ++ decimal c.args.count) ++ newline) c.args.text.now c.put_word_number-first.ensures
-    (puts_two _ (space ++ decimal c.args.count) newline _ c.put_word_number-second.ensures c.put_bytes.ensures))
+    (puts_two _ (space ++ decimal c.args.count) newline _ (rw c.from.ensures at c.put_word_number-second.ensures) c.put_bytes.ensures))

@@ -1,60 +1,40 @@
--- `Desk::judge_node` meets its contract: one return for each check, the lowest number first. Assumes nothing.
-use Rattle.std.proofs.Common.{◌≡◌, ℕ, false, not, List, [], ◌++◌, length, take, drop, replicate, sym, refl, ap, ◌∙◌, take-append-drop, length-take-le, rules, le-ltb, lt-ltb}
+-- `Desk::judge_node` meets its contract: the stage, the node, its reach and the mode, in rising order. Assumes nothing.
+use Rattle.std.proofs.Common.{◌≡◌, ℕ, not, [], sym, ap, ◌∙◌, length-take-le, le-ltb, lt-ltb}
+use Rattle.lists.specs.Answer.{refusal}
+use Rattle.lists.proofs.Refusals.{refused_here, refused_later}
+use Rattle.locks.specs.declared.Stage.{Stage}
+use Rattle.locks.specs.declared.Stage.TheVariants.{Holding}
 use Rattle.locks.specs.Stages.{is_out, is_waiting}
-use Rattle.locks.specs.Lent.{Hierarchy, lent, in_named}
+use Rattle.locks.specs.Lent.{lent, lent_in, in_named}
 use Rattle.desk.specs.Desks.{stage_at}
-use Rattle.desk.proofs.Judging.{node_13, node_14, node_15, node_16, node_0}
+use Rattle.desk.specs.Inner.{own_at}
 use Rattle.desk.proofs.Desk.judge_node.Goals as goal
-use Rattle.desk.proofs.Desk.judge_node.Goals.{After-in_named, Else-is_out, Else-is_waiting, Start}
+use Rattle.desk.proofs.Desk.judge_node.Goals.{After-in_named}
 
-abbrev lent_to : Start → Hierarchy
-lent_to c = lent c.args.n [] c.args.edges.now c.args.edge_count
+-- the search, as the definition has it
+searched : (c : After-in_named) → c.in_named.result ≡ in_named (lent_in c.args.tables.now) c.args.node (stage_at c.args.self.now c.args.party)
+searched c = let t = c.args.tables.now in
+    c.in_named.ensures.value
+    ∙ ap (λ (n : ℕ). in_named (lent n [] t.edges.numbers.now t.edges.count) c.args.node (Holding c.in-Holding.l)) (length-take-le t.n c.args.scratch.now c.requires.0)
+    ∙ ap (in_named (lent_in t) c.args.node) (sym c.in-Holding.is ∙ c.stage-stage.ensures)
 
--- the tests that were passed
-out : (c : Else-is_out) → is_out (stage_at c.args.self c.args.party) ≡ false
-out c = ap is_out (sym c.stage-s.ensures) ∙ sym c.is_out.ensures ∙ c.if-is_out.false
+pub returns-in-Out-clause-judged : goal.returns-in-Out-clause-judged
+returns-in-Out-clause-judged c = let s = sym c.stage-stage.ensures ∙ c.in-Out.is in refused_here _ _ (ap is_out s)
 
-waiting : (c : Else-is_waiting)
-    → is_waiting (stage_at c.args.self c.args.party) ≡ false
-waiting c = ap is_waiting (sym c.stage-s.ensures) ∙ sym c.is_waiting.ensures ∙ c.if-is_waiting.false
+pub returns-in-Waiting-clause-judged : goal.returns-in-Waiting-clause-judged
+returns-in-Waiting-clause-judged c = let s = sym c.stage-stage.ensures ∙ c.in-Waiting.is in refused_later _ _ (ap is_out s) ∙ refused_here _ _ (ap is_waiting s)
 
--- the search had n flags
-long : (c : After-in_named) → (length (take c.args.n c.args.scratch.now) ≡ c.args.n)
-long c = length-take-le c.args.n c.args.scratch.now c.requires.0
+pub returns-then-tables-node-clause-judged : goal.returns-then-tables-node-clause-judged
+returns-then-tables-node-clause-judged c = let s = sym c.stage-stage.ensures ∙ c.in-Holding.is in
+    refused_later _ _ (ap is_out s) ∙ refused_later _ _ (ap is_waiting s) ∙ refused_here _ _ (ap not (le-ltb _ _ c.if-tables-node.true))
 
--- the last test, as the definition has it
-reached : (c : After-in_named) → (not (in_named (lent_to c.before.before.before.before.before.before.before.before.before.before.before.before) c.args.node (stage_at c.args.self c.args.party)) ≡ not c.in_named.result)
-reached c =
-    ap not (sym (c.in_named.ensures.value
-    ∙ ap (λ (n : ℕ). in_named (lent n [] c.args.edges.now c.args.edge_count) c.args.node c.stage-s.result) (long c)
-    ∙ ap (in_named (lent_to c.before.before.before.before.before.before.before.before.before.before.before.before) c.args.node) c.stage-s.ensures))
+pub returns-then-not-in_named-clause-judged : goal.returns-then-not-in_named-clause-judged
+returns-then-not-in_named-clause-judged c = let s = sym c.stage-stage.ensures ∙ c.in-Holding.is in
+    refused_later _ _ (ap is_out s) ∙ refused_later _ _ (ap is_waiting s) ∙ refused_later _ _ (ap not (lt-ltb _ _ c.if-tables-node.false))
+    ∙ refused_here _ _ (ap not (sym (searched (goal.at.returns-then-not-in_named-clause-judged c).After-in_named) ∙ c.if-not-in_named.true))
 
--- the scratch is as it was
-kept : (c : After-in_named) (part : List ℕ) → (part ≡ replicate (length (take c.args.n c.args.scratch.now)) 0 → part ++ drop c.args.n c.args.scratch.now ≡ c.args.scratch.now)
-kept c part e = ap (λ (front : List ℕ). front ++ drop c.args.n c.args.scratch.now) (e ∙ ap (λ (n : ℕ). replicate n 0) (long c) ∙ sym c.requires.1)
-    ∙ take-append-drop c.args.n c.args.scratch.now
-
-pub returns-then-is_out : goal.returns-then-is_out
-returns-then-is_out c = record { upper_bound = (search rules, node_13 (lent_to (goal.at.returns-then-is_out c).Start) c.args.self c.args.party c.args.node (ap is_out (sym c.stage-s.ensures) ∙ sym c.is_out.ensures ∙ c.if-is_out.true)); scratch_unchanged = refl }
-
-pub returns-then-is_waiting : goal.returns-then-is_waiting
-returns-then-is_waiting c = record {
-  upper_bound = (
-    search rules,
-    node_14 (lent_to (goal.at.returns-then-is_waiting c).Start) c.args.self c.args.party c.args.node (out (goal.at.returns-then-is_waiting c).Else-is_out)
-        (ap is_waiting (sym c.stage-s.ensures) ∙ sym c.is_waiting.ensures ∙ c.if-is_waiting.true),
-  );
-  scratch_unchanged = refl;
-}
-
-pub returns-then-n-node : goal.returns-then-n-node
-returns-then-n-node c = record { upper_bound = (search rules, node_15 (lent_to (goal.at.returns-then-n-node c).Start) c.args.self c.args.party c.args.node (out (goal.at.returns-then-n-node c).Else-is_out) (waiting (goal.at.returns-then-n-node c).Else-is_waiting) (ap not (le-ltb _ _ c.if-n-node.true))); scratch_unchanged = refl }
-
-pub slice_bounds-in_named-end-2 : goal.slice_bounds-in_named-end-2
-slice_bounds-in_named-end-2 c = sym (length-take-le c.args.n c.args.scratch.now c.requires.0)
-
-pub returns-then-not-in_named : goal.returns-then-not-in_named
-returns-then-not-in_named c = record { upper_bound = (search rules, node_16 (lent_to (goal.at.returns-then-not-in_named c).Start) c.args.self c.args.party c.args.node (out (goal.at.returns-then-not-in_named c).Else-is_out) (waiting (goal.at.returns-then-not-in_named c).Else-is_waiting) (ap not (lt-ltb _ _ c.if-n-node.false)) (reached (goal.at.returns-then-not-in_named c).After-in_named ∙ c.if-not-in_named.true-raw)); scratch_unchanged = kept (goal.at.returns-then-not-in_named c).After-in_named _ c.in_named.ensures.flags_after }
-
-pub returns : goal.returns
-returns c = record { upper_bound = (search rules, node_0 (lent_to (goal.at.returns c).Start) c.args.self c.args.party c.args.node (out (goal.at.returns c).Else-is_out) (waiting (goal.at.returns c).Else-is_waiting) (ap not (lt-ltb _ _ c.if-n-node.false)) (reached (goal.at.returns c).After-in_named ∙ c.if-not-in_named.false-raw)); scratch_unchanged = kept (goal.at.returns c).After-in_named _ c.in_named.ensures.flags_after }
+pub returns-clause-judged : goal.returns-clause-judged
+returns-clause-judged c = let s = sym c.stage-stage.ensures ∙ c.in-Holding.is in
+    refused_later _ _ (ap is_out s) ∙ refused_later _ _ (ap is_waiting s) ∙ refused_later _ _ (ap not (lt-ltb _ _ c.if-tables-node.false))
+    ∙ refused_later _ _ (ap not (sym (searched (goal.at.returns-clause-judged c).After-in_named) ∙ c.if-not-in_named.false))
+    ∙ ap (λ (x : Stage). refusal (own_at c.args.access x)) s ∙ c.judge_mode.ensures

@@ -1,6 +1,0 @@
--- `number` ends with its line.
-use Rattle.std.proofs.Common.{◌-◌, length}
-use Rattle.file_cases.proofs.number.Given as goal
-
-abbrev pub decreases-loop-i : goal.decreases-loop-i
-decreases-loop-i l = length l.line - l.i

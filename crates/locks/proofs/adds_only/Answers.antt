@@ -1,7 +1,0 @@
--- `adds_only` meets its contract: the mode of a holder is tested. Assumes nothing.
-use mathlib.Core.Path.{sym, ap, ◌∙◌}
-use Rattle.locks.specs.Stages.{adds_only}
-use Rattle.locks.proofs.adds_only.Goals as goal
-
-pub returns-in-Holding : goal.returns-in-Holding
-returns-in-Holding c = c.is_adding.ensures ∙ sym (ap adds_only c.in-Holding.is)
