@@ -26,7 +26,7 @@ HERE = os.path.dirname(os.path.abspath(__file__))
 MODEL = os.path.join(HERE, "..", "model", "model.py")
 FILES = os.path.join(HERE, "..", "..", "conformance")
 PROGRAMS = ("listing", "waits", "cut")  # functions of the model; the first two are ends of the files' names too
-LIMIT = 10  # seconds of processor time for a file; the model needs less than a quarter of one for the longest; with an equivalent change it took over 1.5 once
+LIMIT = 60  # seconds of processor time for a file; the model needs up to 0.6 for the longest; with an equivalent change it took 9.4 on one machine, and over 10 beside other work
 
 
 class Wrong(Exception):

@@ -54,7 +54,7 @@ COMMANDS = {"rt", "rattle", "gcc", "ulimit"}
 WORDS = {
     "words of the languages Rattle, antt and C": """let else if match return pub extern mut use as record elim rw simp search grind by omega ap self ensures requires
         unsafe no_mangle usize u8 u16 u32 u64 bool old C""",
-    "names that the kit gives in the goals of a proof": """goal at args ensures given initial branch auto invariant Start After-is_out Else-k-ne0 one_name_more-bounds if-closer best-is
+    "names that the kit gives in the goals of a proof": """goal at args ensures given initial branch auto invariant Start After-leaving-swept Else-n-gt-NODES one_name_more-bounds if-closer best-is
         slice_known-1 shared_slice_known shared_slice_known-in-loop-i-1""",
     "such names with a place for the source's": "STEP FIELD GOAL PLACE F slice_bounds-F-end overflow_cast-x if-a-b in-V",
     "variables of an example in the text": "test",

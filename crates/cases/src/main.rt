@@ -6,7 +6,6 @@ ghost use Rattle.std.specs.Prelude.{◌≤◌};
 
 use hierarchy::EdgeTable;
 use refusals::Refusal;
-use std::io;
 use std::io::Write;
 
 // LINES. A number with one digit more; 0 where ten times the number is no usize.
@@ -35,18 +34,17 @@ fn size(line: &[u8], k: usize, most: usize) -> usize
 }
 
 // Says a word, then a number.
-fn say<W: Write>(out: &mut W, word: &[u8], k: usize) -> io::Result<()> {
-    streams::write_all(out, word)?;
-    streams::print_decimal(out, k as u64)
+fn say<W: Write>(out: &mut W, word: &[u8], k: usize) {
+    let _ = streams::write_all(out, word);
+    let _ = streams::print_decimal(out, k as u64);
 }
 
 // Says what a buffer holds: so many of a byte, then so many of the next.
-fn say_bytes<W: Write>(out: &mut W, bytes: &[u8]) -> io::Result<()> {
+fn say_bytes<W: Write>(out: &mut W, bytes: &[u8]) {
     for run in bytes.chunk_by(|a, b| a == b) {
-        say(out, b", ", run.len())?;
-        say(out, b" of ", usize::from(octets::byte(run, 0)))?;
+        say(out, b", ", run.len());
+        say(out, b" of ", usize::from(octets::byte(run, 0)));
     }
-    Ok(())
 }
 
 // HIERARCHIES. What stands at place i of a table: where d is 0, the line's number i behind its first; or else the table has edges from each node to each
@@ -75,19 +73,20 @@ fn front(table: &[u16], k: usize) -> &[u16] {
 }
 
 // Says the intervals of the line's nodes, from one up to another.
-fn say_intervals<W: Write>(out: &mut W, line: &[u8], places: &[u16]) -> io::Result<()> {
+fn say_intervals<W: Write>(out: &mut W, line: &[u8], places: &[u16]) {
     for node in number(line, 5)..number(line, 6) {
         let i = covers::interval_at(places, node);
-        say(out, b", ", usize::from(i.low))?;
-        say(out, b" ", usize::from(i.high))?;
+        say(out, b", ", usize::from(i.low));
+        say(out, b" ", usize::from(i.high));
     }
-    Ok(())
 }
 
 // Says what building answers.
-fn say_built<W: Write>(out: &mut W, answer: Result<(), Refusal>) -> io::Result<()> {
+fn say_built<W: Write>(out: &mut W, answer: Result<(), Refusal>) {
     match answer {
-        Ok(()) => streams::write_all(out, b": built"),
+        Ok(()) => {
+            let _ = streams::write_all(out, b": built");
+        }
         Err(refusal) => say(out, b": refused ", usize::from(refusal.number())),
     }
 }
@@ -99,7 +98,7 @@ fn build<W: Write>(
     numbers: &[u16],
     places: &mut [u16],
     scratch: &mut [u8],
-) -> io::Result<()> {
+) {
     let n = number(line, 0);
     let edges = EdgeTable {
         numbers,
@@ -110,26 +109,25 @@ fn build<W: Write>(
     say_built(
         out,
         intervals::build(n, &edges, &mut places[0..held], &mut scratch[0..room]),
-    )?;
-    say_intervals(out, line, places)?;
-    say_bytes(out, scratch)
+    );
+    say_intervals(out, line, places);
+    say_bytes(out, scratch);
 }
 
 // Builds over so many numbers of the line's edges, or of edges to the next nodes, with places of 7 and scratch of 9.
-fn build_line<W: Write>(out: &mut W, line: &[u8]) -> io::Result<()> {
+fn build_line<W: Write>(out: &mut W, line: &[u8]) {
     let mut edges = [0u16; 2050];
     fill(line, 8, number(line, 7), &mut edges);
     let ends = front(&edges, number(line, 2));
     let mut places = [7u16; 516];
     let mut scratch = [9u8; 2050];
-    build(out, line, ends, &mut places, &mut scratch)
+    build(out, line, ends, &mut places, &mut scratch);
 }
 
 // Says what stands at a place of the words.
-fn say_word<W: Write>(out: &mut W, words: &[u64], i: usize) -> io::Result<()> {
-    match words.get(i) {
-        Some(word) => say(out, b", ", *word as usize),
-        None => Ok(()),
+fn say_word<W: Write>(out: &mut W, words: &[u64], i: usize) {
+    if let Some(word) = words.get(i) {
+        say(out, b", ", *word as usize);
     }
 }
 
@@ -141,7 +139,7 @@ fn build_plain<W: Write>(
     numbers: &[u16],
     places: &mut [u16],
     words: &mut [u64],
-) -> io::Result<()> {
+) {
     let n = number(line, 0);
     let edges = EdgeTable {
         numbers,
@@ -152,36 +150,36 @@ fn build_plain<W: Write>(
     say_built(
         out,
         reach_sets::build(n, &edges, &mut places[0..held], &mut words[0..room]),
-    )?;
-    say_intervals(out, line, places)?;
-    say_word(out, words, 0)?;
-    say_word(out, words, 1023)?;
-    say_word(out, words, 1024)
+    );
+    say_intervals(out, line, places);
+    say_word(out, words, 0);
+    say_word(out, words, 1023);
+    say_word(out, words, 1024);
 }
 
 // The same over the line's edges, with places of 7 and words of 9.
-fn plain_line<W: Write>(out: &mut W, line: &[u8]) -> io::Result<()> {
+fn plain_line<W: Write>(out: &mut W, line: &[u8]) {
     let mut edges = [0u16; 2050];
     fill(line, 8, number(line, 7), &mut edges);
     let ends = front(&edges, number(line, 2));
     let mut places = [7u16; 516];
     let mut words = [9u64; 1026];
-    build_plain(out, line, ends, &mut places, &mut words)
+    build_plain(out, line, ends, &mut places, &mut words);
 }
 
 // Says the cover by n, so many places of the line's table, and so many of its two names.
-fn cover_line<W: Write>(out: &mut W, line: &[u8]) -> io::Result<()> {
+fn cover_line<W: Write>(out: &mut W, line: &[u8]) {
     let mut names = [0u16; 2];
     let mut table = [0u16; 20];
     fill(line, 3, 0, &mut names);
     fill(line, 5, 0, &mut table);
     let named = front(&names, number(line, 2));
     let held = front(&table, number(line, 1));
-    say(out, b": ", covers::cover(number(line, 0), held, named))
+    say(out, b": ", covers::cover(number(line, 0), held, named));
 }
 
 // Says whether a node is in the reach of 3 or of 6, of ten nodes with the line's eleven edges, and what that leaves in flags of 9.
-fn reach_line<W: Write>(out: &mut W, line: &[u8]) -> io::Result<()> {
+fn reach_line<W: Write>(out: &mut W, line: &[u8]) {
     let mut edges = [0u16; 22];
     let mut flags = [9u8; 10];
     fill(line, 3, 0, &mut edges);
@@ -190,35 +188,38 @@ fn reach_line<W: Write>(out: &mut W, line: &[u8]) -> io::Result<()> {
         count: 11,
     };
     let found = hierarchy::in_reach(&table, &[3, 6], number(line, 2), &mut flags);
-    say(out, b": ", usize::from(found))?;
-    say_bytes(out, &flags)
+    say(out, b": ", usize::from(found));
+    say_bytes(out, &flags);
 }
 
 // ALL LINES. What a line asks for.
-fn answer<W: Write>(out: &mut W, line: &[u8]) -> io::Result<()> {
+fn answer<W: Write>(out: &mut W, line: &[u8]) {
     match octets::byte(line, 0) {
         b'b' => build_line(out, line),
         b'c' => cover_line(out, line),
         b'i' => reach_line(out, line),
         b'p' => plain_line(out, line),
-        _ => Ok(()),
+        _ => {}
     }
 }
 
 // Each line is written out, then what it asks for is done.
-fn run<W: Write>(out: &mut W, text: &[u8]) -> io::Result<()> {
-    for whole in text.split_inclusive(|b| *b == b'\n') {
-        let line = whole.strip_suffix(b"\n").unwrap_or(whole);
-        streams::write_all(out, line)?;
-        answer(out, line)?;
-        streams::write_all(out, b"\n")?;
+// Kept: a place counted by hand, since the contract of `line_end` says where a line ends; a chain over std's `split_inclusive` left that to no contract.
+fn run<W: Write>(out: &mut W, text: &[u8]) {
+    let mut at = 0;
+    while at < text.len() {
+        let end = streams::line_end(text, at);
+        let line = &text[at..end];
+        at = end + 1;
+        let _ = streams::write_all(out, line);
+        answer(out, line);
+        let _ = streams::write_all(out, b"\n");
     }
-    Ok(())
 }
 
-// Reads the lines, and runs them; where standard output takes no more, it stops.
+// Reads the lines, and runs them.
 fn main(rt: HostRuntime) {
     let mut text = [0u8; 65536];
     let n = streams::read_full(&mut rt.stdin(), &mut text);
-    let _ = run(&mut rt.stdout(), &text[..n]);
+    run(&mut rt.stdout(), &text[..n]);
 }

@@ -44,24 +44,47 @@ impl EdgeTable<'_> {
 pub fn edge_at(edges: &EdgeTable<'_>, e: usize) -> Ends
     ensures { result ≡ ends_at edges.now.numbers.now e }
 {
-    // All places past the end are alike.
-    let place = 2 * e.min(edges.numbers.len());
-    let number = |i: usize| edges.numbers.get(i).copied().unwrap_or(0);
+    let numbers = edges.numbers;
+    if e < numbers.len() / 2 {
+        return Ends {
+            parent: usize::from(numbers[2 * e]),
+            child: usize::from(numbers[2 * e + 1]),
+        };
+    }
+    // An odd last number is a parent without a child. All places past the end are alike.
+    let last = numbers.get(2 * e.min(numbers.len())).copied();
     Ends {
-        parent: usize::from(number(place)),
-        child: usize::from(number(place + 1)),
+        parent: usize::from(last.unwrap_or(0)),
+        child: 0,
     }
 }
 
-// Whether some edge is none that n nodes may have: 7 of the table of refusals. All four tests are made of each, so that many edges are tested at once.
+// Whether an edge is none that n nodes may have: 7 of the table of refusals.
+fn edge_wrong(n: usize, parent: usize, child: usize) -> bool
+    ensures { result ≡ edge_wrong n parent child }
+{
+    n <= parent || n <= child || child == 0 || parent == child
+}
+
+// Whether one of these edges is, up to the first that is.
+fn some_wrong(n: usize, pairs: &[[u16; 2]]) -> bool
+    ensures { result ≡ some_pair (edge_wrong n) pairs.now }
+{
+    pairs.iter().any(|&[parent, child]| edge_wrong(n, usize::from(parent), usize::from(child)))
+}
+
+// Whether some edge is none that n nodes may have. For an n that fits what an end fits all four tests are made of each, so that many edges are tested at once.
 pub fn edges_wrong(n: usize, edges: &EdgeTable<'_>) -> bool
     ensures { result ≡ some_edge (edge_wrong n) (edges_in edges.now) }
 {
     let pairs = edges.pairs();
+    if 65535 < n {
+        return some_wrong(n, pairs);
+    }
     let Some(last) = n.checked_sub(1) else {
         return !pairs.is_empty();
     };
-    // No end is above 65,535.
+    // It fits: n is at most 65,535 here.
     let last = u16::try_from(last).unwrap_or(u16::MAX);
     let mut wrong = false;
     for &[parent, child] in pairs {

@@ -27,8 +27,10 @@ fn walk(node: usize, next: u16, edges: &EdgeTable<'_>, marks: &mut [u8], numbers
     marks[node] = 1;
     let mut at = next;
     let mut leaf = true;
-    for e in 0..edges.count {
-        let ends = hierarchy::edge_at(edges, e);
+    // A copy, so that writing to marks and numbers does not make it be loaded anew at each turn.
+    let own = *edges;
+    for e in 0..own.count {
+        let ends = hierarchy::edge_at(&own, e);
         let child = ends.child;
         if ends.parent == node {
             leaf = false;
@@ -142,8 +144,10 @@ fn relax_once(back: bool, edges: &EdgeTable<'_>, table: &mut [u16]) -> bool
     ensures settled { result ≡ false → Settled false (edges_in edges.now) (lows table.new) × Settled true (edges_in edges.now) (highs table.new) }
 {
     let mut changed = false;
-    for turn in 0..edges.count {
-        let ends = hierarchy::edge_at(edges, turn_at(back, edges.count, turn));
+    // A copy, as in `walk`.
+    let own = *edges;
+    for turn in 0..own.count {
+        let ends = hierarchy::edge_at(&own, turn_at(back, own.count, turn));
         let to = 2 * ends.parent;
         let from = 2 * ends.child;
         let low = improve(false, to, from, table);

@@ -152,8 +152,10 @@ fn join_once(edges: &EdgeTable<'_>, table: &mut [u64]) -> bool
     ensures settled { result ≡ false → Settled (edges_in edges.now) table.new }
 {
     let mut grown = false;
-    for e in (0..edges.count).rev() {
-        let ends = hierarchy::edge_at(edges, e);
+    // A copy, so that writing to the sets does not make it be loaded anew at each turn.
+    let own = *edges;
+    for e in (0..own.count).rev() {
+        let ends = hierarchy::edge_at(&own, e);
         grown |= join_at(ends.parent, ends.child, table);
     }
     grown

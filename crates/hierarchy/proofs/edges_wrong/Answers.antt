@@ -7,6 +7,11 @@ use Rattle.hierarchy.specs.Inner.{some_pair}
 use Rattle.hierarchy.proofs.Pairs.{some_pairs, no_node}
 use Rattle.hierarchy.proofs.edges_wrong.Goals as goal
 
+pub returns-then-n-gt65535 : goal.returns-then-n-gt65535
+returns-then-n-gt65535 c = c.some_wrong.ensures
+    ∙ ap (some_pair (edge_wrong c.args.n)) c.pairs-pairs.ensures
+    ∙ some_pairs (edge_wrong c.args.n) (edges_in c.args.edges.now)
+
 pub returns-in_default : goal.returns-in_default
 returns-in_default c = grind (arith, no_node)
 

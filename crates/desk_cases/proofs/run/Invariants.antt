@@ -1,0 +1,6 @@
+-- Each line's end lies behind its start.
+use Rattle.std.proofs.Common.{◌-◌, length}
+use Rattle.desk_cases.proofs.run.Given as goal
+
+abbrev pub decreases-loop-at : goal.decreases-loop-at
+decreases-loop-at g l = length l.text - l.at
